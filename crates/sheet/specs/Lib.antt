@@ -1,0 +1,4 @@
+pub mod Graph
+pub mod Check
+pub mod View
+pub mod Held
