@@ -1,0 +1,1 @@
+//! The greedy pairing of a sheet.
