@@ -23,3 +23,5 @@ pub const EDITION: u32 = 8;
 pub const NO_PARCEL: u32 = 9;
 /// A store that there is not.
 pub const NO_STORE: u32 = 10;
+/// More notes than the line has free places for; the place is the sender.
+pub const NO_ROOM: u32 = 17;
