@@ -23,3 +23,7 @@ pub const EDITION: u32 = 8;
 pub const NO_PARCEL: u32 = 9;
 /// A store that there is not.
 pub const NO_STORE: u32 = 10;
+/// Records that are not one for each parcel, or a table or a sheet of another size than the round's.
+pub const WRONG_LENGTH: u32 = 12;
+/// A record out of range: no such state, or a choice outside the parcel's row; the place is the parcel.
+pub const ASTRAY: u32 = 16;
