@@ -9,7 +9,7 @@ ghost use Rattle.sheet.specs.View.{graph};
 ghost use Rattle.sheet.specs.Held.{held};
 ghost use Rattle.records.specs.Records.{astray};
 ghost use Rattle.records.specs.Right.{Right, Refused, Lowest};
-ghost use Rattle.records.specs.Listed.{partner-above, lower-pairs, lone-count};
+ghost use Rattle.records.specs.Listed.{Listed, partner-above, lower-pairs, lone-count};
 use faults::ASTRAY;
 use faults::Fault;
 use faults::WRONG_LENGTH;
@@ -94,4 +94,74 @@ pub fn partner_above<K: Copy>(sheet: &Sheet<K>, records: &[Record], u: u32) -> O
     }
     let other = tables.others[place];
     if u < other { Some(other) } else { None }
+}
+
+/// How many parcels the sheet has; at most 1,024.
+pub fn parcel_count<K: Copy>(sheet: &Sheet<K>) -> u32
+    ensures { λ r. ⌜ r ≡ parcels (held (now (sheet .entry))) ⌝ }
+{
+    sheet.tables().stores.len() as u32
+}
+
+/// How many pairs and lone parcels records say there are.
+#[derive(Clone, Copy, PartialEq, Eq)]
+pub struct Tally {
+    /// The pairs, each counted at its lower parcel.
+    pub pairs: u32,
+    /// The parcels in the state `LONE`.
+    pub lone: u32,
+}
+
+/// What the close of a round answers.
+#[derive(Clone, Copy, PartialEq, Eq)]
+pub struct Totals {
+    /// The pairs, each counted at its lower parcel.
+    pub pairs: u32,
+    /// The parcels in the state `LONE`.
+    pub lone: u32,
+    /// The notes that were sent.
+    pub sent: u32,
+    /// The turns that were accepted.
+    pub turns: u32,
+}
+
+// How many pairs are recorded.
+fn count_pairs<K: Copy>(sheet: &Sheet<K>, records: &[Record]) -> u32
+    ensures { λ r. ⌜ r ≡ length (lower-pairs (held (now (sheet .entry))) (now (records .entry))) ⌝ }
+{
+    let mut pairs = 0;
+    for u in 0..parcel_count(sheet) {
+        if partner_above(sheet, records, u).is_some() {
+            pairs += 1;
+        }
+    }
+    pairs
+}
+
+// How many parcels are recorded lone.
+fn count_lone<K: Copy>(sheet: &Sheet<K>, records: &[Record]) -> u32
+    ensures { λ r. ⌜ r ≡ lone-count (held (now (sheet .entry))) (now (records .entry)) ⌝ }
+{
+    let mut lone = 0;
+    for u in 0..parcel_count(sheet) {
+        let at = u as usize;
+        if at < records.len() && records[at].state == LONE {
+            lone += 1;
+        }
+    }
+    lone
+}
+
+/// Counts the recorded pairs, each at its lower parcel, and the parcels that are recorded lone.
+///
+/// A parcel without a record, or with one out of range, counts for nothing: `try_records` finds those.
+pub fn count<K: Copy>(sheet: &Sheet<K>, records: &[Record]) -> Tally
+    ensures pairs { λ r. ⌜ r .pairs ≡ length (lower-pairs (held (now (sheet .entry))) (now (records .entry))) ⌝ }
+    ensures lone { λ r. ⌜ r .lone ≡ lone-count (held (now (sheet .entry))) (now (records .entry)) ⌝ }
+    ensures listed { λ _. ⌜ Listed (held (now (sheet .entry))) (now (records .entry)) (lower-pairs (held (now (sheet .entry))) (now (records .entry))) ⌝ }
+{
+    Tally {
+        pairs: count_pairs(sheet, records),
+        lone: count_lone(sheet, records),
+    }
 }

@@ -17,8 +17,8 @@ returns-then-at-tables g c =
     let rs = c .args .records .now in
     let u = c .args .u in
     elim (c .then-at-tables .came) [
-      then-at-tables·by·then-at-tables w ↦
-      none-past-parcels t rs u (fitted-facts t (held-sound s .fitted-right) .starts-long) (subst (λ tables. parcels (graph tables) ≤ u) (c .tables-tables .ensures) (w .if-at-tables .taken))
-    | then-at-tables·by·else-at-tables·then-at-records w ↦ none-past-records t rs u (w .if-at-records .taken)
-    | then-at-tables·by·else-at-tables·else-at-records·then-records-at-ne-PAIRED w ↦ none-unpaired t rs u (w .if-records-at-ne-PAIRED .taken)
+      | then-at-tables·by·then-at-tables w ↦
+          none-past-parcels t rs u (fitted-facts t (held-sound s .fitted-right) .starts-long) (subst (λ tables. parcels (graph tables) ≤ u) (c .tables-tables .ensures) (w .if-at-tables .taken))
+      | then-at-tables·by·else-at-tables·then-at-records w ↦ none-past-records t rs u (w .if-at-records .taken)
+      | then-at-tables·by·else-at-tables·else-at-records·then-records-at-ne-PAIRED w ↦ none-unpaired t rs u (w .if-records-at-ne-PAIRED .taken)
     ]
