@@ -8,14 +8,8 @@ use lib.ListN.{length, getD, set}
 use Rattle.line.specs.declared.Note.{Note}
 use Rattle.records.specs.declared.Record.{Record}
 use Rattle.sheet.specs.Graph.{Graph, In-row, row-start, place-of}
-use Rattle.pairing.specs.Above.{entry-above}
+use Rattle.choosing.specs.Top.{Top}
 use Rattle.protocol.specs.Marks.{open′, bidden, open-others, bid, drop, strike, note-bid, let-go}
-
--- of the candidates in row u, the entry at place p stands above all others
-pub record Top {K : Type 0} (atleast : K → K → Bool) (t : Graph K) (candidate : ℕ → Bool) (u p : ℕ) : Type 0 where
-  pub within : In-row t u p
-  pub stands : candidate p ≡ true
-  pub highest : (q : ℕ) → In-row t u q → candidate q ≡ true → (q ≡ p → ⊥) → entry-above atleast t p q ≡ true
 
 -- the record of a parcel of this state that chose the entry at place p
 abbrev pub with-choice : {K : Type 0} → Graph K → ℕ → ℕ → ℕ → Record
