@@ -1,4 +1,5 @@
 pub mod Core
 pub mod Entries
+pub mod Marks
 pub mod Hear
 pub mod Choose

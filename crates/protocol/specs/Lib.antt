@@ -4,3 +4,4 @@ pub mod Steps
 pub mod Turns
 pub mod Runs
 pub mod History
+pub mod Law
