@@ -97,7 +97,7 @@ module _ {K : Type 0} (atleast : K → K → Bool) (t : Graph K) (sound : Sound 
           (λ not. inr (sym (upd-other (c .bd) (mirror t s p) true (mirror t u q) not) ∙ b))
           (cases-eq (mirror t u q) (mirror t s p)))
 
-      sent-now : (u q : ℕ) → In-row t u q → Bid-sent atleast t c u q → Bid-sent atleast t hear u q
+      pub sent-now : (u q : ℕ) → In-row t u q → Bid-sent atleast t c u q → Bid-sent atleast t hear u q
       sent-now u q e =
           let marked : mirror t u q ≡ mirror t s p → Bid-sent atleast t hear u q = λ at. inr (upd-same (c .bd) (mirror t s p) true (mirror t u q) at) in
           ⊎-elim

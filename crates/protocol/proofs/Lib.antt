@@ -3,3 +3,4 @@ pub mod Entries
 pub mod Marks
 pub mod Hear
 pub mod Choose
+pub mod Step
