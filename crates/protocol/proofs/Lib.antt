@@ -4,3 +4,5 @@ pub mod Marks
 pub mod Hear
 pub mod Choose
 pub mod Step
+pub mod Sums
+pub mod Used

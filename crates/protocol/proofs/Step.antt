@@ -112,7 +112,7 @@ module _ {K : Type 0} (atleast : K → K → Bool) (laws : Lawful atleast) (t : 
     entry-below : mirror t s p < length m
     entry-below = omega (arith, long, place-below t sound (other t p) (mirror t s p) (mirror-in t sound s p along))
 
-    heard-opens : (q : ℕ) → open′ (heard t (bid t s p) m) q ≡ open′ m q
+    pub heard-opens : (q : ℕ) → open′ (heard t (bid t s p) m) q ≡ open′ m q
     heard-opens q =
         ⊎-elim
         (λ is. subst (λ x. open′ (heard t (bid t s p) m) x ≡ open′ m x) (sym is) (heard-open m (heard t (bid t s p) m) (mirror t s p) (mirror t s p) (getD-set-same m (mirror t s p) _ 0 entry-below)))
@@ -126,7 +126,7 @@ module _ {K : Type 0} (atleast : K → K → Bool) (laws : Lawful atleast) (t : 
         (λ n. same-bidden m (heard t (bid t s p) m) q q (getD-set-other m (mirror t s p) q _ 0 n) ∙ sym (upd-other (bidden m) (mirror t s p) true q n))
         (cases-eq q (mirror t s p))
 
-    dropped-opens : (q : ℕ) → open′ (dropped t (drop t s p) m) q ≡ upd (open′ m) (mirror t s p) false q
+    pub dropped-opens : (q : ℕ) → open′ (dropped t (drop t s p) m) q ≡ upd (open′ m) (mirror t s p) false q
     dropped-opens q =
         ⊎-elim
         (λ is. ap (open′ (dropped t (drop t s p) m)) is ∙ struck-closed (dropped t (drop t s p) m) (mirror t s p) (getD m (mirror t s p) 0) (getD-set-same m (mirror t s p) _ 0 entry-below) ∙ sym (upd-same (open′ m) (mirror t s p) false q is))
@@ -168,7 +168,7 @@ module _ {K : Type 0} (atleast : K → K → Bool) (laws : Lawful atleast) (t : 
               (above-ordered atleast laws t .ranks (pair-at atleast t u (mirror t s p)) (pair-at atleast t u q) (λ same. n (sym (one-place t sound u (mirror t s p) q row e (joint-other u (other t (mirror t s p)) (other t q) same)))));
         }
 
-    receives-bid : Inv atleast t (core st at m (bid t s p ∷ rest)) → {r′ : Record} {m′ : List ℕ} {out : List Note} → Receives atleast t (bid t s p) r m r′ m′ out → Inv atleast t (core (upd st (other t p) (r′ .state)) (upd at (other t p) (row-start t (other t p) + r′ .choice)) m′ (out ++ rest))
+    pub receives-bid : Inv atleast t (core st at m (bid t s p ∷ rest)) → {r′ : Record} {m′ : List ℕ} {out : List Note} → Receives atleast t (bid t s p) r m r′ m′ out → Inv atleast t (core (upd st (other t p) (r′ .state)) (upd at (other t p) (row-start t (other t p) + r′ .choice)) m′ (out ++ rest))
     receives-bid inv (hears _ un) =
         let free = not-awaited (bid t s p) refl refl un in
         inv-same atleast t (hear atleast t sound (core st at m (bid t s p ∷ rest)) inv s p rest along free) (core (upd st (other t p) (r .state)) (upd at (other t p) (row-start t (other t p) + r .choice)) (heard t (bid t s p) m) rest)
@@ -211,7 +211,7 @@ module _ {K : Type 0} (atleast : K → K → Bool) (laws : Lawful atleast) (t : 
     receives-bid inv (loses e _) = absurd (omega (arith, e))
     receives-bid inv (turns e _ _) = absurd (omega (arith, e))
 
-    receives-drop : Inv atleast t (core st at m (drop t s p ∷ rest)) → {r′ : Record} {m′ : List ℕ} {out : List Note} → Receives atleast t (drop t s p) r m r′ m′ out → Inv atleast t (core (upd st (other t p) (r′ .state)) (upd at (other t p) (row-start t (other t p) + r′ .choice)) m′ (out ++ rest))
+    pub receives-drop : Inv atleast t (core st at m (drop t s p ∷ rest)) → {r′ : Record} {m′ : List ℕ} {out : List Note} → Receives atleast t (drop t s p) r m r′ m′ out → Inv atleast t (core (upd st (other t p) (r′ .state)) (upd at (other t p) (row-start t (other t p) + r′ .choice)) m′ (out ++ rest))
     receives-drop inv (hears e _) = absurd (omega (arith, e))
     receives-drop inv (agrees e _ _) = absurd (omega (arith, e))
     receives-drop inv (loses _ un) =
