@@ -6,3 +6,4 @@ pub mod Choose
 pub mod Step
 pub mod Sums
 pub mod Used
+pub mod Holds
