@@ -15,6 +15,7 @@ use Rattle.sheet.specs.Graph.{Graph, parcels, row-start, row-end, other, key, I
 use Rattle.sheet.specs.Check.{Sound, Alike}
 use Rattle.pairing.specs.Pairs.{joint}
 use Rattle.pairing.specs.Above.{above, entry-above}
+use Rattle.pairing.proofs.Compared.{higher}
 use Rattle.pairing.proofs.Orders.{row-above}
 use Rattle.choosing.specs.Top.{Top, Choice}
 
@@ -24,9 +25,6 @@ rise pq qp b e f = grind arith
 
 strict : (pq qp b : Bool) → qp ≡ false → (not qp || ((pq && qp) && b)) ≡ true
 strict pq qp b e = grind arith
-
-tell : (pq qp b : Bool) → (qp ≡ false → pq ≡ true) → (not qp || ((pq && qp) && b)) ≡ true → pq ≡ true
-tell pq qp b total e = grind arith
 
 module _ {K : Type 0} (atleast : K → K → Bool) (t : Graph K) (stands : ℕ → Bool) (u : ℕ) where
   -- q is the top of the candidates before place p
@@ -44,7 +42,7 @@ module _ {K : Type 0} (atleast : K → K → Bool) (t : Graph K) (stands : ℕ �
 module _ {K : Type 0} (atleast : K → K → Bool) (laws : Lawful atleast) (t : Graph K) where
   -- the key of an entry above is at least as high
   pub above-no-lower : (p q : ℕ) → entry-above atleast t p q ≡ true → lifted atleast (key t p) (key t q) ≡ true
-  above-no-lower p q = tell (lifted atleast (key t p) (key t q)) (lifted atleast (key t q) (key t p)) (ltb q p) (lifted-lawful atleast laws .total (key t q) (key t p))
+  above-no-lower p q = higher (lifted atleast (key t p) (key t q)) (lifted atleast (key t q) (key t p)) (ltb q p) (lifted-lawful atleast laws .total (key t q) (key t p))
 
   -- a later entry whose key is at least as high stands above
   later-above : (p q : ℕ) → q < p → lifted atleast (key t p) (key t q) ≡ true → entry-above atleast t p q ≡ true

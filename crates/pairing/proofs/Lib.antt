@@ -2,3 +2,4 @@ pub mod Entries
 pub mod Members
 pub mod Keys
 pub mod Orders
+pub mod Compared

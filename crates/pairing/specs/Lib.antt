@@ -1,2 +1,4 @@
 pub mod Pairs
 pub mod Above
+pub mod Theorems
+pub mod Examples

@@ -1,0 +1,4 @@
+pub mod Changes
+pub mod Keeping
+pub mod Advancing
+pub mod Finish
