@@ -7,3 +7,4 @@ pub mod Step
 pub mod Sums
 pub mod Used
 pub mod Holds
+pub mod Tops

@@ -104,7 +104,7 @@ module _ {K : Type 0} (atleast : K → K → Bool) (laws : Lawful atleast) (t : 
   upd-over : (f : ℕ → ℕ) (u a b x : ℕ) → upd f u b x ≡ upd (upd f u a) u b x
   upd-over f u a b x = ⊎-elim (λ is. upd-same f u b x is ∙ sym (upd-same (upd f u a) u b x is)) (λ n. upd-other f u b x n ∙ sym (upd-other f u a x n) ∙ sym (upd-other (upd f u a) u b x n)) (cases-eq x u)
 
-  joint-other : (u x y : ℕ) → joint u x ≡ joint u y → x ≡ y
+  pub joint-other : (u x y : ℕ) → joint u x ≡ joint u y → x ≡ y
   joint-other u x y e = let l = ap (λ (p : Pair). p .lo) e in let h = ap (λ (p : Pair). p .hi) e in omega (arith, l, h)
 
   -- the addressee's entry for a note along the entry at place p of row s
