@@ -8,3 +8,4 @@ pub mod Sums
 pub mod Used
 pub mod Holds
 pub mod Tops
+pub mod Greedy
