@@ -15,7 +15,7 @@ use Rattle.std.proofs.shelf.Counted.{length-counting}
 use Rattle.std.specs.declared.result.Result.{Result}
 use Rattle.std.specs.declared.result.Result.the-variants.{Ok, Err}
 use Rattle.std.proofs.shelf.Sums.{sumBy-cons, countBy-le-length}
-use Rattle.std.proofs.shelf.Sorted.{length-shuffled}
+use Rattle.std.proofs.shelf.Sorted.{length-shuffled, shuffled-refl}
 use Rattle.std.proofs.shelf.Lists.{getD-set-same, getD-set-other, length-append, length-set}
 use Rattle.std.proofs.shelf.Tests.{cases-eq, cases-bool, both-ways, eq-eqb, and-from, le-leb}
 use Rattle.std.proofs.shelf.Ways.{tells}
@@ -29,7 +29,7 @@ use Rattle.sheet.specs.Graph.{Graph, In-row, parcels, entries, other, mirror, r
 use Rattle.sheet.specs.Check.{Sound, Alike}
 use Rattle.sheet.proofs.Facts.{sized-facts}
 use Rattle.pairing.proofs.Entries.{other-below}
-use Rattle.protocol.specs.World.{World, fits}
+use Rattle.protocol.specs.World.{World, fits, free}
 use Rattle.protocol.specs.Marks.{open′, bidden, bid, drop, places}
 use Rattle.protocol.specs.Steps.{Chooses, alone, waits, pairs, Receives, hears, agrees, loses, turns}
 use Rattle.protocol.specs.Turns.{Changes, Started, Start, Fetched, Fetch, counted}
@@ -186,8 +186,42 @@ module _ {K : Type 0} (atleast : K → K → Bool) (laws : Lawful atleast) (t : 
           used = omega (arith, holds .used, more-used, sent);
         }
 
+  -- so a turn finds room for what it sends
+  pub send-room : (w : World) → Holds w → (u : ℕ) → u < parcels t → (r : Record) (m : List ℕ) (out : List Note) → length m ≡ length (w .marks) → ((x : ℕ) → (In-row t u x → ⊥) → open′ m x ≡ open′ (w .marks) x) → row-used t (w .records) (w .marks) u + length out ≤ countBy (used (r .state) (row-start t u + r .choice) m) (places t u) → length out ≤ free w
+  send-room w holds u parcel r m out long elsewhere more =
+      let w′ : World = record {
+        parcel-count = w .parcel-count;
+        entry-count = w .entry-count;
+        store-count = w .store-count;
+        turns = counted (w .turns) 1;
+        sent = counted (w .sent) (length out);
+        records = set (w .records) u r;
+        marks = m;
+        waiting = out ++ w .waiting;
+        capacity = w .capacity;
+        next = w .next;
+      } in
+      let ch : Changes w u r m (w .waiting) out w′ = record {
+        records = refl;
+        marks = refl;
+        waiting = shuffled-refl (out ++ w .waiting);
+        turns = refl;
+        sent = refl;
+        capacity = refl;
+        parcel-count = refl;
+        entry-count = refl;
+        store-count = refl;
+      } in
+      omega (arith, used-now w w′ holds u parcel r m (w .waiting) out ch long elsewhere more, used-few t sound (w′ .records) (w′ .marks), holds .behind, holds .used, holds .room)
+
+  -- an idle parcel uses only what is struck
+  pub idle-used : (w : World) (u : ℕ) → state (w .records) u ≡ 0 → row-used t (w .records) (w .marks) u ≤ countBy (λ x. not (open′ (w .marks) x)) (places t u)
+  idle-used w u idle =
+      count-in (used (state (w .records) u) (chosen-place t (w .records) u) (w .marks)) (λ x. not (open′ (w .marks) x)) (places t u)
+      (λ x _ h. ⊎-elim (λ z. ap not z) (λ k. absurd (both-ways (eqb (state (w .records) u) 1 || eqb (state (w .records) u) 2) (ap (λ y. eqb y 1 || eqb y 2) idle) (k .0))) (used-cases (state (w .records) u) (chosen-place t (w .records) u) (w .marks) x h))
+
   -- choosing keeps how many marks there are, and ends in a state that has started
-  chooses-long : {u : ℕ} {m : List ℕ} {r : Record} {m′ : List ℕ} {out : List Note} → Chooses atleast t u m r m′ out → length m′ ≡ length m
+  pub chooses-long : {u : ℕ} {m : List ℕ} {r : Record} {m′ : List ℕ} {out : List Note} → Chooses atleast t u m r m′ out → length m′ ≡ length m
   chooses-long (alone _) = refl
   chooses-long (waits _ _) = refl
   chooses-long (pairs _ _ go) = go .long
@@ -197,7 +231,7 @@ module _ {K : Type 0} (atleast : K → K → Bool) (laws : Lawful atleast) (t : 
   chooses-begun (waits _ _) = refl
   chooses-begun (pairs _ _ _) = refl
 
-  receives-long : {n : Note} {r r′ : Record} {m m′ : List ℕ} {out : List Note} → Receives atleast t n r m r′ m′ out → length m′ ≡ length m
+  pub receives-long : {n : Note} {r r′ : Record} {m m′ : List ℕ} {out : List Note} → Receives atleast t n r m r′ m′ out → length m′ ≡ length m
   receives-long {n} {r} {r′} {m} (hears _ _) = length-set m _ _
   receives-long {n} {r} {r′} {m} (agrees _ _ go) = go .long ∙ length-set m _ _
   receives-long {n} {r} {r′} {m} (loses _ _) = length-set m _ _
@@ -213,9 +247,6 @@ module _ {K : Type 0} (atleast : K → K → Bool) (laws : Lawful atleast) (t : 
   pub start-holds : {u : ℕ} {w w′ : World} → Holds w → Started atleast t u w w′ → Holds w′
   start-holds {u} {w} {w′} holds s =
       let a = s .accepted in
-      let idle-used : row-used t (w .records) (w .marks) u ≤ countBy (λ x. not (open′ (w .marks) x)) (places t u) =
-      count-in (used (state (w .records) u) (chosen-place t (w .records) u) (w .marks)) (λ x. not (open′ (w .marks) x)) (places t u)
-      (λ x _ h. ⊎-elim (λ z. ap not z) (λ k. absurd (both-ways (eqb (state (w .records) u) 1 || eqb (state (w .records) u) 2) (ap (λ y. eqb y 1 || eqb y 2) (a .idle)) (k .0))) (used-cases (state (w .records) u) (chosen-place t (w .records) u) (w .marks) x h)) in
       let begins : cond {A = ℕ} (begun (state (w .records) u)) 1 0 + 1 ≡ cond {A = ℕ} (begun (a .record′ .state)) 1 0 =
       (let p : cond {A = ℕ} (begun (state (w .records) u)) 1 0 ≡ 0 = ap (λ y. cond {A = ℕ} (begun y) 1 0) (a .idle) in
       let q : cond {A = ℕ} (begun (a .record′ .state)) 1 0 ≡ 1 = ap (λ b. cond {A = ℕ} b 1 0) (chooses-begun (a .chooses)) in
@@ -223,7 +254,7 @@ module _ {K : Type 0} (atleast : K → K → Bool) (laws : Lawful atleast) (t : 
       holds-now w w′ holds u (a .parcel) (a .record′) (a .marks′) (w .waiting) (a .out) (s .changes) (chooses-long (a .chooses)) 1 0 (omega arith) (omega arith)
       (chooses-inv atleast laws t sound alike (state (w .records)) (chosen-place t (w .records)) (w .marks) (w .waiting) (holds .claims) u (a .parcel) (a .idle) (a .chooses))
       (chooses-elsewhere t atleast u (a .parcel) (w .marks) (a .chooses))
-      (omega (arith, idle-used, chooses-used t atleast u (a .parcel) (w .marks) (a .chooses)))
+      (omega (arith, idle-used w u (a .idle), chooses-used t atleast u (a .parcel) (w .marks) (a .chooses)))
       begins
 
   pub fetch-holds : {s : ℕ} {w w′ : World} → Holds w → Fetched atleast t s w w′ → Holds w′

@@ -9,3 +9,4 @@ pub mod Used
 pub mod Holds
 pub mod Tops
 pub mod Greedy
+pub mod Laws
