@@ -21,6 +21,7 @@ use Rattle.line.specs.Law as lines
 use Rattle.ranking.specs.Law.{Lawful, lifted}
 use Rattle.ranking.proofs.Lifted.{lifted-lawful}
 use Rattle.matching.specs.Pairs.{Pair, holds, touch, same, _∈_}
+use Rattle.matching.specs.Stable.{Stable}
 use Rattle.matching.specs.Half.{Pairing, Answers, Named}
 use Rattle.matching.proofs.In.{has-member}
 use Rattle.matching.proofs.Half.{named, stable-half}
@@ -256,3 +257,57 @@ module _ {K : Type 0} (atleast : K → K → Bool) (laws : Lawful atleast) (t : 
         (λ (f : (s : ℕ) × Fetch-accepted atleast t w s).
         let has = subst (lines.Choice (w .waiting) (f .0)) (f .1 .next) (law .choice (f .0)) in
         subst (λ l. f .1 .note ∈ l) (settled .empty) (has-member (w .waiting) (f .1 .note) (has .0))) turn
+
+    inv : Inv atleast t (core-of atleast laws t sound alike w)
+    inv = holds .claims
+
+    covers : (o n : Pair) → Answers (above atleast t) (lower-pairs t (w .records)) o n → Covers atleast t w o n
+    covers o n a = record {
+      recorded = a .chosen;
+      shares = a .touches;
+      as-high = ⊎-elim (λ e. ap (λ x. lifted atleast (pair-key t n) (pair-key t x)) e ∙ itself (lifted atleast) (lifted-lawful atleast laws) (pair-key t n)) (above-key atleast laws t n o) (a .as-high);
+    }
+
+    each-covers : (O names : List Pair) → Each (Answers (above atleast t) (lower-pairs t (w .records))) O names → Each (Covers atleast t w) O names
+    each-covers [] [] each = each
+    each-covers [] (n ∷ names) each = each
+    each-covers (o ∷ O) [] each = each
+    each-covers (o ∷ O) (n ∷ names) each = (covers o n (each .0), each-covers O names (each .1))
+
+    module _ (settled : Settled t w) where
+      whole : Entire t (w .records) (greedy-pairing atleast t)
+      whole = entire atleast laws t sound alike (core-of atleast laws t sound alike w) inv (settled .decided) (w .records) (facts .records-long) (λ u. refl) (λ u. refl)
+
+      steady : Stable (above atleast t) (sheet-pairs t) (lower-pairs t (w .records))
+      steady = lower-stable atleast laws t sound alike (core-of atleast laws t sound alike w) inv (settled .decided) (w .records) (facts .records-long) (λ u. refl) (λ u. refl)
+
+      covered : (O : List Pair) → Pairing (sheet-pairs t) O → Covered atleast t w O
+      covered O pairing =
+          let n = named (above atleast t) (lower-pairs t (w .records)) (sheet-pairs t) steady O pairing in
+          record { names = n .names; each = each-covers O (n .names) (n .answer); twice = n .twice }
+
+      module _ (value : K → ℕ) (by-value : (a b : K) → atleast a b ≡ leb (value b) (value a)) where
+        no-more : (a b : Option K) → lifted atleast a b ≡ true → valueOr (mapped value b) 0 ≤ valueOr (mapped value a) 0
+        no-more a None e = omega arith
+        no-more None (Some b) e = absurd (false≢true e)
+        no-more (Some a) (Some b) e = leb-true (value b) (value a) (sym (by-value a b) ∙ e)
+
+        half : (O : List Pair) → Pairing (sheet-pairs t) O → sumBy (pair-value value t) O ≤ 2 * sumBy (pair-value value t) (lower-pairs t (w .records))
+        half O = stable-half (above atleast t) (pair-value value t) (sheet-pairs t) (lower-pairs t (w .records)) O (λ p q _ a. no-more (pair-key t p) (pair-key t q) (above-key atleast laws t p q a)) steady
+
+    pub law-from : lines.Lawful (w .waiting) (w .capacity) (w .next) → Law atleast t w
+    law-from law = record {
+      pair = λ u v r. subst (λ x. joint u x ∈ greedy-pairing atleast t) (r .with′) (recorded-greedy atleast laws t sound alike (core-of atleast laws t sound alike w) inv u (r .parcel) (r .paired));
+      lone = lone-greedy atleast laws t sound alike (core-of atleast laws t sound alike w) inv;
+      entire = whole;
+      balance = holds .balance;
+      few = omega (arith, holds .used, used-few t sound (w .records) (w .marks));
+      goes-on = goes-on law;
+      stops = stops law;
+      covered = covered;
+      half = half;
+    }
+
+  -- after every list of calls since open
+  pub law-of-rounds : {calls : List Call} {w : World} → After atleast t calls w → lines.Lawful (w .waiting) (w .capacity) (w .next) → Law atleast t w
+  law-of-rounds {calls} {w} after = law-from w (after-holds atleast laws t sound alike after)
