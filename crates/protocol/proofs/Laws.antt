@@ -7,7 +7,7 @@ use Prim.Native.Nat.{ℕ, zero, suc, _+_, _-_, _*_, _≤_, _<_}
 use native.Mathlib.Omega.{arith}
 use lib.Dec.{eqb, leb, ltb}
 use lib.ListN.{length, getD, set}
-use Rattle.std.specs.Options.{mapped, valueOr}
+use Rattle.std.specs.Options.{isSome, mapped, valueOr}
 use Rattle.std.specs.declared.option.Option.{Option}
 use Rattle.std.specs.declared.option.Option.the-variants.{Some, None}
 use Rattle.std.specs.shelf.Lists.{All, Has, Each, sumBy, countBy}
@@ -225,6 +225,13 @@ module _ {K : Type 0} (atleast : K → K → Bool) (laws : Lawful atleast) (t : 
               room = omega (arith, c .room);
             }
 
+    -- a store that is handed a note: its fetch would be accepted
+    next-accepted : lines.Lawful (w .waiting) (w .capacity) (w .next) → (s : ℕ) (o : Option Note) → w .next s ≡ o → isSome o ≡ true → Fetch-accepted atleast t w s
+    next-accepted law s None e some = absurd (false≢true some)
+    next-accepted law s (Some n) e some =
+        let has = subst (lines.Choice (w .waiting) s) e (law .choice s) in
+        subst (Fetch-accepted atleast t w) (has .1) (fetch-accepted law n (has-member (w .waiting) n (has .0)))
+
     pub goes-on : lines.Lawful (w .waiting) (w .capacity) (w .next) → (Settled t w → ⊥) → Some-turn atleast t w
     goes-on law unsettled =
         ⊎-elim
@@ -304,6 +311,8 @@ module _ {K : Type 0} (atleast : K → K → Bool) (laws : Lawful atleast) (t : 
       few = omega (arith, holds .used, used-few t sound (w .records) (w .marks));
       goes-on = goes-on law;
       stops = stops law;
+      starts = start-accepted;
+      fetches = λ s _ some. next-accepted law s (w .next s) refl some;
       covered = covered;
       half = half;
     }

@@ -10,3 +10,4 @@ pub mod Holds
 pub mod Tops
 pub mod Greedy
 pub mod Laws
+pub mod Refusals

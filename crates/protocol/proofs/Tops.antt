@@ -40,9 +40,9 @@ pub record Receipt {K : Type 0} (atleast : K → K → Bool) (t : Graph K) (n : 
   pub out : List Note
   pub receives : Receives atleast t n r m record′ marks′ out
 
-module _ {K : Type 0} (atleast : K → K → Bool) (laws : Lawful atleast) (t : Graph K) (sound : Sound t) (alike : Alike atleast t) where
+module _ {K : Type 0} (t : Graph K) (sound : Sound t) where
   -- the marks after letting go
-  abbrev gone-marks : ℕ → ℕ → List ℕ → List ℕ
+  abbrev pub gone-marks : ℕ → ℕ → List ℕ → List ℕ
   gone-marks u p m = map (λ q. cond (let-go t m u p q) (strike (getD m q 0)) (getD m q 0)) (counting 0 (length m))
 
   pub can-let-go : (u p : ℕ) → u < parcels t → (m : List ℕ) → length m ≡ entries t → Lets-go t u p m (gone-marks u p m) (map (drop t u) (open-others t m u p))
@@ -61,6 +61,7 @@ module _ {K : Type 0} (atleast : K → K → Bool) (laws : Lawful atleast) (t : 
             (cases-lt q (length m));
       }
 
+module _ {K : Type 0} (atleast : K → K → Bool) (laws : Lawful atleast) (t : Graph K) (sound : Sound t) (alike : Alike atleast t) where
   -- the best of some places of row u
   module _ (u : ℕ) (stands : ℕ → Bool) where
     abbrev over : ℕ → ℕ → Type 0
@@ -125,7 +126,7 @@ module _ {K : Type 0} (atleast : K → K → Bool) (laws : Lawful atleast) (t : 
       ⊎-elim
       (λ (top : (p : ℕ) × Top atleast t (open′ m) u p).
       ⊎-elim
-      (λ b. record { record′ = _; marks′ = _; out = _; chooses = pairs (top .1) b (can-let-go u (top .0) parcel m long) })
+      (λ b. record { record′ = _; marks′ = _; out = _; chooses = pairs (top .1) b (can-let-go t sound u (top .0) parcel m long) })
       (λ n. record { record′ = _; marks′ = _; out = _; chooses = waits (top .1) n })
       (cases-bool (bidden m (top .0))))
       (λ none. record { record′ = _; marks′ = _; out = _; chooses = alone none })
@@ -137,6 +138,6 @@ module _ {K : Type 0} (atleast : K → K → Bool) (laws : Lawful atleast) (t : 
       let heard-long : length (heard t n m) ≡ entries t = length-set m _ _ ∙ long in
       let dropped-long : length (dropped t n m) ≡ entries t = length-set m _ _ ∙ long in
       ⊎-elim
-      (λ one. ⊎-elim (λ aw. record { record′ = _; marks′ = _; out = _; receives = agrees one aw (can-let-go (n .addressee) (entry-of t n) parcel (heard t n m) heard-long) }) (λ un. record { record′ = _; marks′ = _; out = _; receives = hears one un }) (cases-bool (awaited t n r)))
+      (λ one. ⊎-elim (λ aw. record { record′ = _; marks′ = _; out = _; receives = agrees one aw (can-let-go t sound (n .addressee) (entry-of t n) parcel (heard t n m) heard-long) }) (λ un. record { record′ = _; marks′ = _; out = _; receives = hears one un }) (cases-bool (awaited t n r)))
       (λ two. ⊎-elim (λ aw. let c = can-choose (n .addressee) parcel (dropped t n m) dropped-long in record { record′ = _; marks′ = _; out = _; receives = turns two aw (c .chooses) }) (λ un. record { record′ = _; marks′ = _; out = _; receives = loses two un }) (cases-bool (awaited t n r)))
       kind

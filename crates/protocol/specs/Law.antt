@@ -7,7 +7,7 @@ use Prim.Native.Nat.{ℕ, _+_, _*_, _≤_, _<_}
 use lib.Dec.{eqb, leb, ltb}
 use lib.ListN.{length}
 use Rattle.std.specs.Iters.{counting}
-use Rattle.std.specs.Options.{mapped, valueOr}
+use Rattle.std.specs.Options.{isSome, mapped, valueOr}
 use Rattle.std.specs.shelf.Lists.{Each, sumBy, countBy}
 use Rattle.ranking.specs.Law.{lifted}
 use Rattle.matching.specs.Pairs.{Pair, holds, touch, same, _∈_}
@@ -64,6 +64,9 @@ module _ {K : Type 0} (atleast : K → K → Bool) (t : Graph K) (w : World) whe
     -- some start or fetch would be accepted exactly while the round is unsettled
     pub goes-on : (Settled t w → ⊥) → Some-turn
     pub stops : Some-turn → Settled t w → ⊥
+    -- more than that: a start of any idle parcel would be accepted, and a fetch for any store of the sheet that a note waits for
+    pub starts : (u : ℕ) → u < parcels t → state (w .records) u ≡ 0 → Start-accepted atleast t w u
+    pub fetches : (s : ℕ) → s < t .limit → isSome (w .next s) ≡ true → Fetch-accepted atleast t w s
     -- in a settled round, for any other list of sheet pairs with no parcel twice, a recorded pair that shares a parcel and is at least as high can be named for each pair, none more than twice
     pub covered : Settled t w → (O : List Pair) → Pairing (sheet-pairs t) O → Covered O
     -- where keys rank by a number, as by cents, twice the recorded pairs' sum is at least the other list's
