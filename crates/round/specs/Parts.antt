@@ -1,0 +1,45 @@
+-- The parts of a turn. Assumes nothing.
+use mathlib.Core.Path.{_≡_}
+use mathlib.Core.Bool.{Bool, true, false}
+use mathlib.Core.List.{List, _∷_, _++_}
+use Prim.Native.Nat.{ℕ, _+_, _≤_, _<_}
+use lib.ListN.{length, getD, set}
+use Rattle.std.specs.shelf.Sorted.{Shuffled}
+use Rattle.line.specs.declared.Note.{Note}
+use Rattle.records.specs.declared.Record.{Record}
+use Rattle.sheet.specs.Graph.{Graph, In-row, parcels, entries}
+use Rattle.choosing.specs.Top.{Top}
+use Rattle.protocol.specs.Marks.{open′, bidden, open-others, drop, strike}
+use Rattle.protocol.specs.Steps.{Lets-go, Chooses}
+use Rattle.round.specs.declared.choose.Plan.{Plan}
+use Rattle.round.specs.declared.choose.Plan.the-variants.{Alone, Waits, Pairs}
+
+-- what a parcel means to do, and how many notes that sends
+abbrev pub Planned : {K : Type 0} → (K → K → Bool) → Graph K → ℕ → List ℕ → Plan → Type 0
+Planned atleast t u m Alone = (p : ℕ) → In-row t u p → open′ m p ≡ false
+Planned atleast t u m (Waits p) = Top atleast t (open′ m) u p × (bidden m p ≡ false)
+Planned atleast t u m (Pairs p n) = Top atleast t (open′ m) u p × (bidden m p ≡ true) × (n ≡ length (open-others t m u p))
+
+-- how many notes a plan sends
+abbrev pub sends : Plan → ℕ
+sends Alone = 0
+sends (Waits p) = 1
+sends (Pairs p n) = n + 1
+
+-- if the test holds, a drop went along the entry at place q of row u, and it was struck; else nothing changed
+abbrev pub Dropped-one : {K : Type 0} → Graph K → ℕ → ℕ → Bool → List ℕ → List ℕ → List Note → List Note → Type 0
+Dropped-one t u q true m m′ before after = (m′ ≡ set m q (strike (getD m q 0))) × Shuffled (drop t u q ∷ before) after
+Dropped-one t u q false m m′ before after = (m′ ≡ m) × (after ≡ before)
+
+-- a parcel let go of all but one entry, and the drops are on the line
+pub record Let-go {K : Type 0} (t : Graph K) (u p : ℕ) (m m′ : List ℕ) (before after : List Note) : Type 0 where
+  pub out : List Note
+  pub go : Lets-go t u p m m′ out
+  pub put : Shuffled (out ++ before) after
+
+-- a parcel chose, and what it sent is on the line
+pub record Chose {K : Type 0} (atleast : K → K → Bool) (t : Graph K) (u : ℕ) (m : List ℕ) (r : Record) (m′ : List ℕ) (before after : List Note) (count : ℕ) : Type 0 where
+  pub out : List Note
+  pub chooses : Chooses atleast t u m r m′ out
+  pub put : Shuffled (out ++ before) after
+  pub many : length out ≡ count
