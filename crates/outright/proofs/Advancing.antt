@@ -70,19 +70,19 @@ module _ {K : Type 0} (atleast : K → K → Bool) (laws : Lawful atleast) (t : 
   settled-on : (u : ℕ) → Settled rs u → Settled rs′ u
   settled-on u was =
       elim (now u) [
-        same _ e ↦ subst (λ (r : Record). ((r .state ≡ 1) ⊎ (r .state ≡ 2)) ⊎ (r .state ≡ 3)) (sym e) was
-      | lone _ three _ _ ↦ inr three
-      | waiting _ _ one _ _ _ ↦ inl (inl one)
-      | paired _ two _ _ ↦ inl (inr two)
+        | same _ e ↦ subst (λ (r : Record). ((r .state ≡ 1) ⊎ (r .state ≡ 2)) ⊎ (r .state ≡ 3)) (sym e) was
+        | lone _ three _ _ ↦ inr three
+        | waiting _ _ one _ _ _ ↦ inl (inl one)
+        | paired _ two _ _ ↦ inl (inr two)
       ]
 
   no-new-on : (u : ℕ) → state rs′ u ≡ 1 → state rs (chosen t rs′ u) ≡ 2 → (state rs u ≡ 1) × (chosen t rs u ≡ chosen t rs′ u)
   no-new-on u one two =
       elim (now u) [
-        same _ e ↦ (ap (λ (r : Record). r .state) (sym e) ∙ one, ap (λ (r : Record). other t (row-start t u + r .choice)) (sym e))
-      | lone _ three _ _ ↦ absurd (omega (arith, one, three))
-      | waiting _ _ _ _ n _ ↦ absurd (n two)
-      | paired _ also _ _ ↦ absurd (omega (arith, one, also))
+        | same _ e ↦ (ap (λ (r : Record). r .state) (sym e) ∙ one, ap (λ (r : Record). other t (row-start t u + r .choice)) (sym e))
+        | lone _ three _ _ ↦ absurd (omega (arith, one, three))
+        | waiting _ _ _ _ n _ ↦ absurd (n two)
+        | paired _ also _ _ ↦ absurd (omega (arith, one, also))
       ]
 
   -- the worklist after the settling

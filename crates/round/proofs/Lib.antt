@@ -1,2 +1,4 @@
 pub mod Rows
+pub mod Sizes
 pub mod Going
+pub mod Carried

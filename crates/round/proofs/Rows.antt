@@ -54,3 +54,8 @@ pub shuffled-middle : {A : Type 0} (xs : List A) (y : A) (zs : List A) → Shuff
 shuffled-middle [] y zs = shuffled-refl (y ∷ zs)
 shuffled-middle (x ∷ xs) y zs =
     shuffled-trans (y ∷ x ∷ (xs ++ zs)) (x ∷ y ∷ (xs ++ zs)) (x ∷ (xs ++ y ∷ zs)) (shuffled-swap (y ∷ x ∷ (xs ++ zs)) (x ∷ y ∷ (xs ++ zs)) 0 1 (omega arith) (omega arith) refl) (shuffled-cons x (y ∷ (xs ++ zs)) (xs ++ y ∷ zs) (shuffled-middle xs y zs))
+
+-- the same in front of shuffled lists
+pub shuffled-behind : {A : Type 0} (xs ys zs : List A) → Shuffled ys zs → Shuffled (xs ++ ys) (xs ++ zs)
+shuffled-behind [] ys zs s = s
+shuffled-behind (x ∷ xs) ys zs s = shuffled-cons x (xs ++ ys) (xs ++ zs) (shuffled-behind xs ys zs s)

@@ -18,13 +18,13 @@ use Rattle.round.specs.declared.choose.Plan.the-variants.{Alone, Waits, Pairs}
 abbrev pub Planned : {K : Type 0} → (K → K → Bool) → Graph K → ℕ → List ℕ → Plan → Type 0
 Planned atleast t u m Alone = (p : ℕ) → In-row t u p → open′ m p ≡ false
 Planned atleast t u m (Waits p) = Top atleast t (open′ m) u p × (bidden m p ≡ false)
-Planned atleast t u m (Pairs p n) = Top atleast t (open′ m) u p × (bidden m p ≡ true) × (n ≡ length (open-others t m u p))
+Planned atleast t u m (Pairs p n) = Top atleast t (open′ m) u p × (bidden m p ≡ true) × (n ≡ length (open-others t m u p) + 1)
 
 -- how many notes a plan sends
 abbrev pub sends : Plan → ℕ
 sends Alone = 0
 sends (Waits p) = 1
-sends (Pairs p n) = n + 1
+sends (Pairs p n) = n
 
 -- if the test holds, a drop went along the entry at place q of row u, and it was struck; else nothing changed
 abbrev pub Dropped-one : {K : Type 0} → Graph K → ℕ → ℕ → Bool → List ℕ → List ℕ → List Note → List Note → Type 0

@@ -9,8 +9,10 @@ ghost use Rattle.std.specs.shelf.Sorted.{Shuffled};
 ghost use Rattle.sheet.specs.Graph.{In-row, parcels, entries, row-start, row-end};
 ghost use Rattle.sheet.specs.Held.{held};
 ghost use Rattle.protocol.specs.Marks.{open′, open-others, note-along};
+ghost use Rattle.protocol.specs.Steps.{with-choice};
 ghost use Rattle.round.specs.Parts.{Planned, sends, Dropped-one, Let-go, Chose};
 use choosing::Candidates;
+use choosing::top_entry;
 use line::BID;
 use line::DROP;
 use line::Line;
@@ -28,6 +30,7 @@ pub const STRUCK: u8 = 1;
 pub const BIDDEN: u8 = 2;
 
 // The open entries, as candidates for a choice.
+#[derive(Drop)]
 struct OpenEntries<'a>(&'a [u8]);
 
 impl Candidates for OpenEntries<'_> as OpenEntriesCandidates {
@@ -39,12 +42,13 @@ impl Candidates for OpenEntries<'_> as OpenEntriesCandidates {
 }
 
 // What a parcel does when it chooses.
+#[derive(Drop)]
 pub(crate) enum Plan {
     // It has no open entry.
     Alone,
     // It bids for this entry, and waits.
     Waits(usize),
-    // It bids for this entry and pairs there, and sends so many drops.
+    // It bids for this entry and pairs there, and so sends this many notes.
     Pairs(usize, u32),
 }
 
@@ -72,14 +76,14 @@ fn note_along<K: Copy>(sheet: &Sheet<K>, kind: u8, u: usize, p: usize) -> Note
     }
 }
 
-// Puts a note for which there is room.
-fn put_sure<L: Line>(line: &mut L, note: Note)
-    requires store { ⌜ note .store ≤ 63 ⌝ }
+// Sends a note along the entry at place `p` of row `u`, for which there is room.
+fn send<K: Copy, L: Line>(sheet: &Sheet<K>, line: &mut L, kind: u8, u: usize, p: usize)
+    requires within { ⌜ In-row (held (now sheet)) u p ⌝ }
     requires room { ⌜ length (L·Line .waiting (now line)) < L·Line .capacity (now line) ⌝ }
-    ensures notes { λ _. ⌜ Shuffled (note ∷ L·Line .waiting (now (line .entry))) (L·Line .waiting (now (line .exit))) ⌝ }
+    ensures notes { λ _. ⌜ Shuffled (note-along (held (now (sheet .entry))) kind u p ∷ L·Line .waiting (now (line .entry))) (L·Line .waiting (now (line .exit))) ⌝ }
     ensures size { λ _. ⌜ L·Line .capacity (now (line .exit)) ≡ L·Line .capacity (now (line .entry)) ⌝ }
 {
-    let _ = line.put(note);
+    let _ = line.put(note_along(sheet, kind, u, p));
 }
 
 // Whether the entry at place `q` is open, and not the one at `keep`.
@@ -91,7 +95,12 @@ fn other_open(marks: &[u8], q: usize, keep: usize) -> bool
 }
 
 // How many entries of row `u` are open, but for the one at `keep`.
-pub(crate) fn count_open_others<K: Copy>(sheet: &Sheet<K>, marks: &[u8], u: usize, keep: usize) -> u32
+pub(crate) fn count_open_others<K: Copy>(
+    sheet: &Sheet<K>,
+    marks: &[u8],
+    u: usize,
+    keep: usize,
+) -> u32
     requires parcel { ⌜ u < parcels (held (now sheet)) ⌝ }
     requires long { ⌜ length (now marks) ≡ entries (held (now sheet)) ⌝ }
     ensures { λ r. ⌜ r ≡ length (open-others (held (now (sheet .entry))) (now (marks .entry)) u keep) ⌝ }
@@ -107,7 +116,14 @@ pub(crate) fn count_open_others<K: Copy>(sheet: &Sheet<K>, marks: &[u8], u: usiz
 }
 
 // Sends a drop along the entry at place `q` and strikes it, if it is open and not the one at `keep`.
-fn drop_other<K: Copy, L: Line>(sheet: &Sheet<K>, marks: &mut [u8], line: &mut L, u: usize, keep: usize, q: usize)
+fn drop_other<K: Copy, L: Line>(
+    sheet: &Sheet<K>,
+    marks: &mut [u8],
+    line: &mut L,
+    u: usize,
+    keep: usize,
+    q: usize,
+)
     requires within { ⌜ In-row (held (now sheet)) u q ⌝ }
     requires long { ⌜ length (now marks) ≡ entries (held (now sheet)) ⌝ }
     requires room { ⌜ ((open′ (now marks) q && not (eqb q keep)) ≡ true → length (L·Line .waiting (now line)) < L·Line .capacity (now line)) ⌝ }
@@ -115,14 +131,19 @@ fn drop_other<K: Copy, L: Line>(sheet: &Sheet<K>, marks: &mut [u8], line: &mut L
     ensures size { λ _. ⌜ L·Line .capacity (now (line .exit)) ≡ L·Line .capacity (now (line .entry)) ⌝ }
 {
     if other_open(marks, q, keep) {
-        let note = note_along(sheet, DROP, u, q);
-        put_sure(line, note);
+        send(sheet, line, DROP, u, q);
         marks[q] |= STRUCK;
     }
 }
 
 // Lets go of all but the entry at `keep`: in row order, every other open entry is sent a drop and struck.
-pub(crate) fn let_go<K: Copy, L: Line>(sheet: &Sheet<K>, marks: &mut [u8], line: &mut L, u: usize, keep: usize)
+pub(crate) fn let_go<K: Copy, L: Line>(
+    sheet: &Sheet<K>,
+    marks: &mut [u8],
+    line: &mut L,
+    u: usize,
+    keep: usize,
+)
     requires parcel { ⌜ u < parcels (held (now sheet)) ⌝ }
     requires long { ⌜ length (now marks) ≡ entries (held (now sheet)) ⌝ }
     requires room { ⌜ length (open-others (held (now sheet)) (now marks) u keep) + length (L·Line .waiting (now line)) ≤ L·Line .capacity (now line) ⌝ }
@@ -132,5 +153,75 @@ pub(crate) fn let_go<K: Copy, L: Line>(sheet: &Sheet<K>, marks: &mut [u8], line:
     let (start, end) = row(sheet, u);
     for q in start..end {
         drop_other(sheet, marks, line, u, keep, q);
+    }
+}
+
+// What parcel `u` does if it chooses now.
+pub(crate) fn plan_choice<K: Ranking>(sheet: &Sheet<K>, marks: &[u8], u: usize) -> Plan
+    requires parcel { ⌜ u < parcels (held (now sheet)) ⌝ }
+    requires long { ⌜ length (now marks) ≡ entries (held (now sheet)) ⌝ }
+    ensures { λ r. ⌜ Planned (K·Ranking .atleast) (held (now (sheet .entry))) u (now (marks .entry)) r ⌝ }
+{
+    let Some(p) = top_entry(sheet, u, &OpenEntries(marks)) else {
+        return Plan::Alone;
+    };
+    if marks[p] & BIDDEN == 0 {
+        return Plan::Waits(p);
+    }
+    Plan::Pairs(p, count_open_others(sheet, marks, u, p) + 1)
+}
+
+// How many notes a plan sends.
+pub(crate) fn sending(plan: &Plan) -> u32
+    ensures { λ r. ⌜ r ≡ sends (now (plan .entry)) ⌝ }
+{
+    match plan {
+        Plan::Alone => 0,
+        Plan::Waits(_) => 1,
+        Plan::Pairs(_, count) => *count,
+    }
+}
+
+// The record of a parcel of this state that chose the entry at place `p` of its row.
+fn with_choice<K: Copy>(sheet: &Sheet<K>, state: u8, u: usize, p: usize) -> Record
+    requires { ⌜ In-row (held (now sheet)) u p ⌝ }
+    ensures { λ r. ⌜ r ≡ with-choice (held (now (sheet .entry))) state u p ⌝ }
+{
+    let (start, _) = row(sheet, u);
+    Record {
+        state,
+        choice: (p - start) as u32,
+    }
+}
+
+// Carries out a plan for which there is room: what it sends goes on the line. Answers the parcel's record.
+pub(crate) fn carry_out<K: Ranking, L: Line>(
+    sheet: &Sheet<K>,
+    marks: &mut [u8],
+    line: &mut L,
+    u: usize,
+    plan: Plan,
+) -> Record
+    requires parcel { ⌜ u < parcels (held (now sheet)) ⌝ }
+    requires long { ⌜ length (now marks) ≡ entries (held (now sheet)) ⌝ }
+    requires planned { ⌜ Planned (K·Ranking .atleast) (held (now sheet)) u (now marks) plan ⌝ }
+    requires room { ⌜ sends plan + length (L·Line .waiting (now line)) ≤ L·Line .capacity (now line) ⌝ }
+    ensures done { λ r. ⌜ Chose (K·Ranking .atleast) (held (now (sheet .entry))) u (now (marks .entry)) r (now (marks .exit)) (L·Line .waiting (now (line .entry))) (L·Line .waiting (now (line .exit))) (sends plan) ⌝ }
+    ensures size { λ _. ⌜ L·Line .capacity (now (line .exit)) ≡ L·Line .capacity (now (line .entry)) ⌝ }
+{
+    match plan {
+        Plan::Alone => Record {
+            state: LONE,
+            choice: 0,
+        },
+        Plan::Waits(p) => {
+            send(sheet, line, BID, u, p);
+            with_choice(sheet, WAITS, u, p)
+        }
+        Plan::Pairs(p, _) => {
+            send(sheet, line, BID, u, p);
+            let_go(sheet, marks, line, u, p);
+            with_choice(sheet, PAIRED, u, p)
+        }
     }
 }

@@ -43,8 +43,8 @@ loop-q-again g c =
     let test : ℕ → Bool = λ x. open′ (c .args .marks .now) x && not (eqb x (c .args .keep)) in
     let low : start ≤ q = c .loop-q .kept .q in
     elim (c .if-other-open .came) [
-      then-other-open w ↦ w .count-is ∙ ap (λ n. n + 1) (c .loop-q .inv) ∙ sym (ap length (kept-yes test start q low (sym (w .if-other-open .ensures tt))) ∙ length-push (kept-by test (places-from (q - start) start)) q)
-    | else-other-open w ↦ w .count-is ∙ c .loop-q .inv ∙ sym (ap length (kept-not test start q low (sym (w .if-other-open .ensures tt))))
+      | then-other-open w ↦ w .count-is ∙ ap (λ n. n + 1) (c .loop-q .inv) ∙ sym (ap length (kept-yes test start q low (sym (w .if-other-open .ensures tt))) ∙ length-push (kept-by test (places-from (q - start) start)) q)
+      | else-other-open w ↦ w .count-is ∙ c .loop-q .inv ∙ sym (ap length (kept-not test start q low (sym (w .if-other-open .ensures tt))))
     ]
 
 pub returns : need.returns

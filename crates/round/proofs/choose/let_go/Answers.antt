@@ -42,9 +42,10 @@ loop-q-again g c =
       to = omega (arith, c .row-start .ensures .1, c .loop-q-test .taken);
     } in
     let inv = c .loop-q .inv in
-    let below : c .loop-q .q < length (c .loop-q .marks) = omega (arith, inv .0 .long, c .pre .long, place-below (held s) (held-sound s) (c .args .u) (c .loop-q .q) row) in
-    (going-step (held s) (c .args .u) (c .args .keep) (c .args .marks .now) (g .L·Line .waiting (c .args .line .now)) (c .loop-q .q) row (c .loop-q .marks) (g .L·Line .waiting (c .loop-q .line)) (inv .0) (c .drop-other .last .marks) (g .L·Line .waiting (c .drop-other .last .line)) (c .pre .parcel) below (c .drop-other .ensures .done),
-    c .drop-other .ensures .size ∙ inv .1)
+    let below : c .loop-q .q < length (c .loop-q .marks) = omega (arith, inv .0 .long, c .pre .long, place-below (held s) (held-sound s) (c .args .u) (c .loop-q .q) row) in (
+      going-step (held s) (c .args .u) (c .args .keep) (c .args .marks .now) (g .L·Line .waiting (c .args .line .now)) (c .loop-q .q) row (c .loop-q .marks) (g .L·Line .waiting (c .loop-q .line)) (inv .0) (c .drop-other .last .marks) (g .L·Line .waiting (c .drop-other .last .line)) (c .pre .parcel) below (c .drop-other .ensures .done),
+      c .drop-other .ensures .size ∙ inv .1,
+    )
 
 pub returns : need.returns
 returns g c =
