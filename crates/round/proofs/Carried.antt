@@ -10,10 +10,12 @@ use Rattle.std.proofs.shelf.Lists.{length-map}
 use Rattle.std.proofs.shelf.Sorted.{shuffled-refl, shuffled-trans}
 use Rattle.line.specs.declared.Note.{Note}
 use Rattle.records.specs.declared.Record.{Record}
-use Rattle.sheet.specs.Graph.{Graph, In-row, parcels}
+use Rattle.sheet.specs.Graph.{Graph, In-row, parcels, entries}
+use Rattle.sheet.specs.Check.{Sound}
 use Rattle.choosing.specs.Top.{Top}
 use Rattle.protocol.specs.Marks.{open′, bidden, bid, drop, open-others}
 use Rattle.protocol.specs.Steps.{Chooses, alone, waits, pairs, with-choice, lone-record}
+use Rattle.protocol.proofs.Tops.{can-let-go}
 use Rattle.round.specs.Parts.{Planned, sends, Let-go, Chose}
 use Rattle.round.specs.declared.choose.Plan.{Plan}
 use Rattle.round.specs.declared.choose.Plan.the-variants.{Alone, Waits, Pairs}
@@ -44,3 +46,18 @@ module _ {K : Type 0} (atleast : K → K → Bool) (t : Graph K) (u : ℕ) (m : 
       put = shuffled-trans (bid t u p ∷ (go .out ++ before)) (go .out ++ (bid t u p ∷ before)) after (shuffled-middle (go .out) (bid t u p) before) (shuffled-trans (go .out ++ (bid t u p ∷ before)) (go .out ++ mid) after (shuffled-behind (go .out) (bid t u p ∷ before) mid put) (go .put));
       many = (let l = ap length (go .go .drops) ∙ length-map (open-others t m u p) (drop t u) in omega (arith, pairs-count, l));
     }
+
+-- what a plan would come to
+pub record Meant {K : Type 0} (atleast : K → K → Bool) (t : Graph K) (u : ℕ) (m : List ℕ) (count : ℕ) : Type 0 where
+  pub record′ : Record
+  pub marks′ : List ℕ
+  pub out : List Note
+  pub chooses : Chooses atleast t u m record′ marks′ out
+  pub many : length out ≡ count
+
+pub meant : {K : Type 0} (atleast : K → K → Bool) (t : Graph K) → Sound t → (u : ℕ) (m : List ℕ) → u < parcels t → length m ≡ entries t → (plan : Plan) → Planned atleast t u m plan → Meant atleast t u m (sends plan)
+meant atleast t sound u m parcel long Alone none = record { record′ = _; marks′ = _; out = _; chooses = alone none; many = refl }
+meant atleast t sound u m parcel long (Waits p) planned = record { record′ = _; marks′ = _; out = _; chooses = waits (planned .0) (planned .1); many = refl }
+meant atleast t sound u m parcel long (Pairs p n) planned =
+    let l = length-map (open-others t m u p) (drop t u) in
+    record { record′ = _; marks′ = _; out = _; chooses = pairs (planned .0) (planned .1) (can-let-go t sound u p parcel m long); many = omega (arith, l, planned .2) }

@@ -1,7 +1,9 @@
 //! A round between stores: open, start, fetch and close.
 mod choose;
+mod starting;
 mod state;
 
 pub use choose::BIDDEN;
 pub use choose::STRUCK;
+pub use starting::start;
 pub use state::Round;
