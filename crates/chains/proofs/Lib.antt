@@ -1,0 +1,6 @@
+mod Linked
+mod Updated
+mod Threads
+mod Tables
+mod Moves
+mod Puts
