@@ -4,3 +4,5 @@ mod Threads
 mod Tables
 mod Moves
 mod Puts
+mod Fresh
+pub mod Waiting

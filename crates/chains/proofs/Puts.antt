@@ -4,17 +4,20 @@ use mathlib.Core.List.{List, [], _∷_, map}
 use mathlib.Core.Logic.{_≢_, ⊎-elim}
 use Prim.Native.Nat.{ℕ, _+_, _-_, _≤_, _<_}
 use native.Mathlib.Omega.{arith}
+use denote.Ref.{now}
 use lib.Dec.{ltb}
 use lib.ListN.{length, getD, drop}
+use Rattle.std.specs.declared.option.Option.the-variants.{None, Some}
 use Rattle.std.proofs.shelf.Lists.{length-drop, length-map}
 use Rattle.std.proofs.shelf.Tests.{cases-lt, le-ltb, cond-false}
 use Rattle.line.specs.declared.Note.{Note}
+use Rattle.chains.specs.declared.Pool.{Pool}
 use Rattle.chains.specs.declared.Slot.{Slot}
-use Rattle.chains.specs.Stores.{notes-in, Elsewhere}
-use Rattle.chains.specs.Tables.{Moved, held}
+use Rattle.chains.specs.Stores.{notes-in, by-store, all-notes, front, Elsewhere}
+use Rattle.chains.specs.Tables.{Movable, Moved, held}
 use Rattle.chains.specs.Walk.{chain, slot-at}
 use Rattle.chains.proofs.Linked.{note-at}
-use Rattle.chains.proofs.Tables.{notes-within, notes-past, chain-first}
+use Rattle.chains.proofs.Tables.{notes-within, notes-past, chain-first, free-count}
 
 -- a chain with a place begins with one
 pub starts : (slots : List Slot) (heads : List ℕ) (cap s : ℕ) → 0 < length (chain slots heads cap s) → getD heads s 0 < cap
@@ -22,6 +25,60 @@ starts slots heads cap s some =
     ⊎-elim (λ h. h)
     (λ h. let none = ap length (chain-first slots heads cap s ∙ cond-false (ltb (getD heads s 0) cap) _ [] (le-ltb _ cap h)) in absurd (omega arith))
     (cases-lt (getD heads s 0) cap)
+
+-- a free place may go to the chain of a note
+pub movable-free : (pool : Pool) (note : Note) → length (pool .heads) ≡ 65 → length (pool .tails) ≡ 65 → note .store ≤ 63 → 0 < pool .room → Movable (now (pool .slots)) (pool .heads) (pool .tails) (pool .capacity) 64 note
+movable-free pool note many-heads many-tails known room =
+    let spare = pool .spare in
+    record {
+      kept = record { whole = pool .whole; owned = pool .owned; ended = pool .ended };
+      limit = pool .limit;
+      lent = pool .lent;
+      many-heads = many-heads;
+      many-tails = many-tails;
+      low = omega arith;
+      known = omega arith;
+      apart = λ e. omega arith;
+      some = starts (now (pool .slots)) (pool .heads) (pool .capacity) 64 (omega arith);
+    }
+
+pub free-count-of : (pool : Pool) → length (all-notes pool) + pool .room ≡ pool .capacity
+free-count-of pool = free-count (now (pool .slots)) (pool .heads) (pool .capacity) (pool .room) (pool .whole) (pool .spare)
+
+pub store-within : (pool : Pool) (s : ℕ) → s < 64 → held (now (pool .slots)) (pool .heads) (pool .capacity) s ≡ by-store pool s
+store-within pool s known = sym (notes-within (now (pool .slots)) (pool .heads) (pool .capacity) s known)
+
+-- a store that has a note is one of the 64, and its chain has a place
+module _ (pool : Pool) (s : ℕ) (note : Note) (has : Some note ≡ front (by-store pool s)) where
+  pub has-store : s < 64
+  has-store =
+      ⊎-elim (λ h. h)
+      (λ past. let none : Some note ≡ None = has ∙ ap front (notes-past (now (pool .slots)) (pool .heads) (pool .capacity) s past) in let z : _≡_ {A = ℕ} 0 1 = cc in absurd (omega arith))
+      (cases-lt s 64)
+
+  pub has-first : by-store pool s ≡ note ∷ drop 1 (by-store pool s)
+  has-first = by-notes (by-store pool s) has
+    where
+      by-notes : (ns : List Note) → Some note ≡ front ns → ns ≡ note ∷ drop 1 ns
+      by-notes [] e = let z : _≡_ {A = ℕ} 0 1 = cc in absurd (omega arith)
+      by-notes (n ∷ ns) e = cc
+
+  pub movable-taken : (blank : Note) → blank .store ≡ 64 → length (pool .heads) ≡ 65 → length (pool .tails) ≡ 65 → Movable (now (pool .slots)) (pool .heads) (pool .tails) (pool .capacity) s blank
+  movable-taken blank to-free many-heads many-tails =
+      let known = has-store in
+      let places = length-map (chain (now (pool .slots)) (pool .heads) (pool .capacity) s) (note-at (now (pool .slots))) in
+      let within = ap length (store-within pool s known ∙ has-first) in
+      record {
+        kept = record { whole = pool .whole; owned = pool .owned; ended = pool .ended };
+        limit = pool .limit;
+        lent = pool .lent;
+        many-heads = many-heads;
+        many-tails = many-tails;
+        low = omega arith;
+        known = omega arith;
+        apart = λ e. omega arith;
+        some = starts (now (pool .slots)) (pool .heads) (pool .capacity) s (omega arith);
+      }
 
 module _ (slots slots′ : List Slot) (heads heads′ : List ℕ) (cap from : ℕ) (n : Note) (joined : List Note)
     (moved : Moved from n (held slots heads cap) (held slots′ heads′ cap) joined) where
@@ -51,3 +108,10 @@ module _ (slots slots′ : List Slot) (heads heads′ : List ℕ) (cap from : �
       notes-within slots′ heads′ cap s known ∙ moved .others s (omega arith) (both .0) (both .1) ∙ sym (notes-within slots heads cap s known))
       (λ past. notes-past slots′ heads′ cap s past ∙ sym (notes-past slots heads cap s past))
       (cases-lt s 64)
+
+-- the chain that a place joined in front is longer by one
+pub longer : (slots slots′ : List Slot) (heads heads′ : List ℕ) (cap from : ℕ) (n : Note) → Moved from n (held slots heads cap) (held slots′ heads′ cap) (n ∷ held slots heads cap (n .store)) → length (chain slots′ heads′ cap (n .store)) ≡ length (chain slots heads cap (n .store)) + 1
+longer slots slots′ heads heads′ cap from n moved =
+    let old = length-map (chain slots heads cap (n .store)) (note-at slots) in
+    let new = length-map (chain slots′ heads′ cap (n .store)) (note-at slots′) in
+    let joins = ap length (moved .joins) in omega arith

@@ -25,7 +25,7 @@ pub record Thread (slots : List Slot) (cap h t s : ℕ) (places : List ℕ) (not
   pub ended : last-or t places ≡ t
   pub noted : map (note-at slots) places ≡ notes
 
-thread-is : (slots : List Slot) (cap s : ℕ) {h h′ t t′ : ℕ} {ps ps′ : List ℕ} {ns ns′ : List Note} → h′ ≡ h → t′ ≡ t → ps′ ≡ ps → ns′ ≡ ns → Thread slots cap h t s ps ns → Thread slots cap h′ t′ s ps′ ns′
+pub thread-is : (slots : List Slot) (cap s : ℕ) {h h′ t t′ : ℕ} {ps ps′ : List ℕ} {ns ns′ : List Note} → h′ ≡ h → t′ ≡ t → ps′ ≡ ps → ns′ ≡ ns → Thread slots cap h t s ps ns → Thread slots cap h′ t′ s ps′ ns′
 thread-is slots cap s {h} {h′} {t} {t′} {ps} {ps′} {ns} {ns′} a b c d th = record {
   linked = subst (λ q. Linked slots cap q ps′) (sym a) (subst (λ qs. Linked slots cap h qs) (sym c) (th .linked));
   owned = ap (all-pass (holds slots s)) c ∙ th .owned;

@@ -4,7 +4,7 @@ use mathlib.Core.Bool.{cond}
 use mathlib.Core.List.{List, [], _∷_, _++_}
 use Prim.Native.Nat.{ℕ}
 use denote.Ref.{now}
-use lib.Dec.{ltb}
+use lib.Dec.{leb, ltb}
 use Rattle.std.specs.declared.option.Option.{Option}
 use Rattle.std.specs.declared.option.Option.the-variants.{None, Some}
 use Rattle.std.specs.declared.result.Result.{Result}
@@ -22,6 +22,9 @@ notes-in slots heads capacity s = cond (ltb s 64) (held slots heads capacity s) 
 abbrev pub by-store : Pool → ℕ → List Note
 by-store pool = notes-in (now (pool .slots)) (pool .heads) (pool .capacity)
 
+abbrev pub capacity-of : Pool → ℕ
+capacity-of pool = pool .capacity
+
 -- the notes of all stores
 abbrev pub all-notes : Pool → List Note
 all-notes pool = gathered (by-store pool) 64
@@ -30,6 +33,10 @@ all-notes pool = gathered (by-store pool) 64
 abbrev pub front : List Note → Option Note
 front [] = None
 front (note ∷ _) = Some note
+
+-- whether a buffer of so many places does for a capacity: the limit first, then the buffer
+abbrev pub ask-answer : ℕ → ℕ → Result (Unit {0}) (ℕ × ℕ)
+ask-answer places capacity = cond (leb capacity 16384) (cond (leb capacity places) (Ok tt) (Err (3, 0))) (Err (2, 0))
 
 -- every store but t has the notes that it had
 abbrev pub Elsewhere : ℕ → (ℕ → List Note) → (ℕ → List Note) → Type 0

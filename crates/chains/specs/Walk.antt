@@ -11,6 +11,10 @@ use Rattle.chains.specs.declared.Slot.{Slot}
 abbrev pub blank : Slot
 blank = record { note = record { sender = 0; addressee = 0; store = 0; kind = 0 }; link = 0 }
 
+-- what a free place holds: a note for no store
+abbrev pub no-note : Note
+no-note = record { sender = 0; addressee = 0; store = 64; kind = 0 }
+
 abbrev pub slot-at : List Slot → ℕ → Slot
 slot-at slots p = getD slots p blank
 

@@ -12,6 +12,7 @@ ghost use Rattle.chains.specs.Gathered.{gathered};
 mod calls;
 mod links;
 
+pub use calls::ask;
 use line::Note;
 
 /// The chain of the free places: one past the last store.
@@ -48,8 +49,8 @@ impl Slot {
 #[derive(Drop)]
 pub struct Pool<'a> {
     slots: &'a mut [Slot],
-    heads: [u32; 65],
-    tails: [u32; 65],
+    heads: [u32; CHAINS],
+    tails: [u32; CHAINS],
     room: u32,
     capacity: u32,
     ghost limit: { capacity ≤ 16384 },

@@ -23,7 +23,7 @@ fn pop(slots: &[Slot], heads: &mut [u32], from: usize) -> u32
 }
 
 // Puts a place with the note in front of the chain of the note's store.
-fn push_front(
+pub(crate) fn push_front(
     slots: &mut [Slot],
     heads: &mut [u32],
     tails: &mut [u32],

@@ -1,35 +1,21 @@
-use mathlib.Core.Path.{_≡_, refl, sym, ap, _∙_}
+use mathlib.Core.Path.{refl, sym, ap, _∙_}
 use mathlib.Core.List.{_∷_}
 use native.Mathlib.Omega.{arith}
 use borrow.Author.Needs.{needs}
 use Rattle.chains.specs.Stores.{all-notes}
-use Rattle.chains.proofs.Tables.{free-count, notes-within}
-use Rattle.chains.proofs.Puts.{starts, shorter, joins, others}
+use Rattle.chains.proofs.Puts.{free-count-of, movable-free, shorter, joins, others, store-within}
 use Rattle.chains.proofs.Pool.put_first.Needs as need
 
 pub returns-in-Break-admit : need.returns-in-Break-admit
 returns-in-Break-admit c =
     let pool = c .args .self .now in
-    let count = free-count (pool .slots .now) (pool .heads) (pool .capacity) (pool .room) (pool .whole) (pool .spare) in
-    let answer = c .in-Break-admit .ensures tt .answer (all-notes pool) (pool .capacity) count in
+    let answer = c .in-Break-admit .ensures tt .answer (all-notes pool) (pool .capacity) (free-count-of pool) in
     search needs
 
 pub move-front-requires : need.move-front-requires
 move-front-requires c κs =
     let admitted = c .in-Continue-admit .ensures tt .admitted in
-    let pool = c .args .self .now in
-    let spare = pool .spare in
-    record {
-      kept = record { whole = pool .whole; owned = pool .owned; ended = pool .ended };
-      limit = pool .limit;
-      lent = pool .lent;
-      many-heads = omega arith;
-      many-tails = omega arith;
-      low = omega arith;
-      known = omega arith;
-      apart = λ e. omega arith;
-      some = starts (pool .slots .now) (pool .heads) (pool .capacity) 64 (omega arith);
-    }
+    movable-free (c .args .self .now) (c .args .note) (omega arith) (omega arith) (omega arith) (omega arith)
 
 pub sub-room : need.sub-room
 sub-room c = omega (arith, c .in-Continue-admit .ensures tt .admitted)
@@ -49,12 +35,11 @@ returns c =
     let move = c .move-front in
     let note = c .args .note in
     let admitted = c .in-Continue-admit .ensures tt .admitted in
-    let count = free-count (pool .slots .now) (pool .heads) (pool .capacity) (pool .room) (pool .whole) (pool .spare) in
     record {
-      answer = c .in-Continue-admit .ensures tt .answer (all-notes pool) (pool .capacity) count;
+      answer = c .in-Continue-admit .ensures tt .answer (all-notes pool) (pool .capacity) (free-count-of pool);
       notes = (
         joins (pool .slots .now) (move .last .slots) (pool .heads) (move .last .heads) (pool .capacity) 64 note _ (move .ensures .moved) (omega arith)
-            ∙ ap (λ ns. note ∷ ns) (sym (notes-within (pool .slots .now) (pool .heads) (pool .capacity) (note .store) (omega arith))),
+            ∙ ap (λ ns. note ∷ ns) (store-within pool (note .store) (omega arith)),
         others (pool .slots .now) (move .last .slots) (pool .heads) (move .last .heads) (pool .capacity) 64 note _ (move .ensures .moved) (note .store) (λ s l ne. (λ e. omega arith, ne)),
       );
       size = refl;
