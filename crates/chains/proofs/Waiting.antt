@@ -1,7 +1,7 @@
 -- The notes of all stores as the notes that wait on a line. Assumes nothing.
 use mathlib.Core.Path.{_≡_, refl, sym, ap, subst, _∙_}
 use mathlib.Core.Bool.{Bool, true}
-use mathlib.Core.List.{List, [], _∷_, _++_, map, append-assoc}
+use mathlib.Core.List.{List, [], _∷_, _++_, map, append-assoc, append-nil}
 use mathlib.Core.Logic.{_≢_, ⊎-elim}
 use Prim.Native.Nat.{ℕ, zero, suc, _+_, _≤_, _<_}
 use native.Mathlib.Omega.{arith}
@@ -29,7 +29,7 @@ use Rattle.chains.specs.Walk.{holds, chain}
 use Rattle.chains.proofs.Linked.{note-at}
 use Rattle.chains.proofs.Puts.{free-count-of, store-within, has-store, has-first}
 use Rattle.chains.proofs.Tables.{notes-past}
-use Rattle.chains.proofs.Updated.{upd, upd-same, upd-other, gathered-same}
+use Rattle.chains.proofs.Updated.{upd, upd-same, upd-other, gathered-same, gathered-none}
 
 -- ---- a note more
 
@@ -73,3 +73,69 @@ module _ {X : Type 0} (f g : ℕ → List X) (t : ℕ) (x : X) (a b : List X) (o
       let s = split n h in
       subst (λ new. Shuffled (x ∷ gathered f n) new) (sym (s .new-is))
       (subst (λ old. Shuffled (x ∷ old) (s .before ++ x ∷ s .behind)) (sym (s .old-is)) (shuffled-into x (s .before) (s .behind)))
+
+-- ---- the calls of a pool
+
+pub first-waits : (note : Note) (old new : Pool) → note .store ≤ 63 → (by-store new (note .store) ≡ note ∷ by-store old (note .store)) × Elsewhere (note .store) (by-store old) (by-store new) → Shuffled (note ∷ all-notes old) (all-notes new)
+first-waits note old new known put =
+    one-more (by-store old) (by-store new) (note .store) note [] (by-store old (note .store)) refl (put .0) (put .1) 64 (omega arith)
+
+pub last-waits : (note : Note) (old new : Pool) → note .store ≤ 63 → (by-store new (note .store) ≡ by-store old (note .store) ++ note ∷ []) × Elsewhere (note .store) (by-store old) (by-store new) → Shuffled (note ∷ all-notes old) (all-notes new)
+last-waits note old new known put =
+    one-more (by-store old) (by-store new) (note .store) note (by-store old (note .store)) [] (sym (append-nil (by-store old (note .store)))) (put .0) (put .1) 64 (omega arith)
+
+pub taken-waits : (note : Note) (s : ℕ) (old new : Pool) → (by-store old s ≡ note ∷ by-store new s) × Elsewhere s (by-store old) (by-store new) → Shuffled (note ∷ all-notes new) (all-notes old)
+taken-waits note s old new taken =
+    one-more (by-store new) (by-store old) s note [] (by-store new s) refl (taken .0) (λ r ne. sym (taken .1 r ne)) 64 (has-store old s note (sym (ap front (taken .0))))
+
+-- ---- the law
+
+gathered-all : {X : Type 0} (P : X → Type 0) (f : ℕ → List X) (n : ℕ) → ((s : ℕ) → s < n → All P (f s)) → All P (gathered f n)
+unfolding gathered
+gathered-all P f zero h = tt
+gathered-all P f (suc n) h = all-append P (gathered f n) (f n) (gathered-all P f n (λ s l. h s (omega arith))) (h n (omega arith))
+
+held-stores : (slots : List Slot) (s : ℕ) (ps : List ℕ) → all-pass (holds slots s) ps ≡ true → All (λ n. n .store ≡ s) (map (note-at slots) ps)
+held-stores slots s [] h = tt
+held-stores slots s (p ∷ ps) h =
+    let both = and-parts (holds slots s p) (all-pass (holds slots s) ps) h in
+    (eqb-true _ s (both .0), held-stores slots s ps (both .1))
+
+module _ (pool : Pool) where
+  -- a note stands with the store that it names
+  pub at-home : (s : ℕ) → s < 64 → All (λ n. n .store ≡ s) (by-store pool s)
+  at-home s known =
+      subst (All (λ n. n .store ≡ s)) (store-within pool s known)
+      (held-stores (now (pool .slots)) s (chain (now (pool .slots)) (pool .heads) (pool .capacity) s) (pool .owned s (omega arith)))
+
+  choice-none : (s : ℕ) → by-store pool s ≡ [] → All (λ n. n .store ≡ s → ⊥) (all-notes pool)
+  choice-none s none =
+      gathered-all (λ n. n .store ≡ s → ⊥) (by-store pool) 64
+      (λ t known. ⊎-elim
+        (λ e. subst (All (λ n. n .store ≡ s → ⊥)) (sym (ap (by-store pool) e ∙ none)) tt)
+        (λ ne. all-weaker (λ n. n .store ≡ t) (λ n. n .store ≡ s → ⊥) (λ n here there. ne (sym here ∙ there)) (by-store pool t) (at-home t known))
+        (cases-eq t s))
+
+  choice-some : (s : ℕ) (note : Note) (rest : List Note) → by-store pool s ≡ note ∷ rest → Has (all-notes pool) note × (note .store ≡ s)
+  choice-some s note rest is =
+      let known = has-store pool s note (sym (ap front is)) in
+      let without = upd (by-store pool) s rest in
+      let shuffled = one-more without (by-store pool) s note [] rest (upd-same (by-store pool) s rest) is (λ t ne. sym (upd-other (by-store pool) s rest t ne)) 64 known in
+      (has-shuffled (note ∷ gathered without 64) (all-notes pool) note shuffled (0, omega arith, λ d. refl),
+       subst (All (λ n. n .store ≡ s)) is (at-home s known) .0)
+
+  choice : (s : ℕ) (ns : List Note) → by-store pool s ≡ ns → Choice (all-notes pool) s (front ns)
+  choice s [] is = choice-none s is
+  choice s (note ∷ rest) is = choice-some s note rest is
+
+  pub pool-lawful : Lawful (all-notes pool) (capacity-of pool) (λ s. front (by-store pool s))
+  pool-lawful = record {
+    within = let count = free-count-of pool in omega arith;
+    limit = pool .limit;
+    stores = gathered-all (λ n. n .store ≤ 63) (by-store pool) 64 (λ s known. all-weaker (λ n. n .store ≡ s) (λ n. n .store ≤ 63) (λ n here. omega arith) (by-store pool s) (at-home s known));
+    choice = λ s. choice s (by-store pool s) refl
+  }
+
+-- a pool with no note for any store
+pub none-wait : (pool : Pool) → ((s : ℕ) → by-store pool s ≡ []) → all-notes pool ≡ []
+none-wait pool empty = gathered-none (by-store pool) 64 (λ s l. empty s)
