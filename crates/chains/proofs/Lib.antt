@@ -1,8 +1,8 @@
 mod Linked
 mod Updated
 mod Threads
-mod Tables
-mod Moves
-mod Puts
-mod Fresh
+pub mod Tables
+pub mod Moves
+pub mod Puts
+pub mod Fresh
 pub mod Waiting

@@ -7,14 +7,16 @@ use native.Mathlib.Omega.{arith}
 use denote.Ref.{now}
 use lib.Dec.{ltb}
 use lib.ListN.{length, getD, drop}
-use Rattle.std.specs.declared.option.Option.the-variants.{None, Some}
+use Rattle.std.specs.declared.result.Result.the-variants.{Ok}
 use Rattle.std.proofs.shelf.Lists.{length-drop, length-map}
 use Rattle.std.proofs.shelf.Tests.{cases-lt, le-ltb, cond-false}
 use Rattle.line.specs.declared.Note.{Note}
+use Rattle.line.specs.Calls.{put-answer}
+use Rattle.line.proofs.Lines.{accepted-store, accepted-room}
 use Rattle.chains.specs.declared.Pool.{Pool}
 use Rattle.chains.specs.declared.Slot.{Slot}
-use Rattle.chains.specs.Stores.{notes-in, by-store, all-notes, front, Elsewhere}
-use Rattle.chains.specs.Tables.{Movable, Moved, held}
+use Rattle.chains.specs.Stores.{Sound, notes-in, by-store, all-notes, places-of, Elsewhere}
+use Rattle.chains.specs.Tables.{Kept, Movable, Moved, held}
 use Rattle.chains.specs.Walk.{chain, slot-at}
 use Rattle.chains.proofs.Linked.{note-at}
 use Rattle.chains.proofs.Tables.{notes-within, notes-past, chain-first, free-count}
@@ -26,14 +28,21 @@ starts slots heads cap s some =
     (λ h. let none = ap length (chain-first slots heads cap s ∙ cond-false (ltb (getD heads s 0) cap) _ [] (le-ltb _ cap h)) in absurd (omega arith))
     (cases-lt (getD heads s 0) cap)
 
+pub kept-of : (pool : Pool) → Sound pool → Kept (now (pool .slots)) (pool .heads) (pool .tails) (pool .capacity)
+kept-of pool sound = record {
+  whole = sound .counted .0;
+  owned = λ s below. sound .chained s below .0;
+  ended = λ s below. sound .chained s below .1;
+}
+
 -- a free place may go to the chain of a note
-pub movable-free : (pool : Pool) (note : Note) → length (pool .heads) ≡ 65 → length (pool .tails) ≡ 65 → note .store ≤ 63 → 0 < pool .room → Movable (now (pool .slots)) (pool .heads) (pool .tails) (pool .capacity) 64 note
-movable-free pool note many-heads many-tails known room =
-    let spare = pool .spare in
+pub movable-free : (pool : Pool) (sound : Sound pool) (note : Note) → length (pool .heads) ≡ 65 → length (pool .tails) ≡ 65 → note .store ≤ 63 → 0 < pool .room → Movable (now (pool .slots)) (pool .heads) (pool .tails) (pool .capacity) 64 note
+movable-free pool sound note many-heads many-tails known room =
+    let spare = sound .counted .1 in
     record {
-      kept = record { whole = pool .whole; owned = pool .owned; ended = pool .ended };
-      limit = pool .limit;
-      lent = pool .lent;
+      kept = kept-of pool sound;
+      limit = sound .sized .0;
+      lent = sound .sized .1;
       many-heads = many-heads;
       many-tails = many-tails;
       low = omega arith;
@@ -42,36 +51,38 @@ movable-free pool note many-heads many-tails known room =
       some = starts (now (pool .slots)) (pool .heads) (pool .capacity) 64 (omega arith);
     }
 
-pub free-count-of : (pool : Pool) → length (all-notes pool) + pool .room ≡ pool .capacity
-free-count-of pool = free-count (now (pool .slots)) (pool .heads) (pool .capacity) (pool .room) (pool .whole) (pool .spare)
+pub free-count-of : (pool : Pool) → Sound pool → length (all-notes pool) + pool .room ≡ pool .capacity
+free-count-of pool sound = free-count (now (pool .slots)) (pool .heads) (pool .capacity) (pool .room) (sound .counted .0) (sound .counted .1)
 
 pub store-within : (pool : Pool) (s : ℕ) → s < 64 → held (now (pool .slots)) (pool .heads) (pool .capacity) s ≡ by-store pool s
 store-within pool s known = sym (notes-within (now (pool .slots)) (pool .heads) (pool .capacity) s known)
 
+-- what an admitted note tells
+pub admitted-store : (pool : Pool) (note : Note) → Ok tt ≡ put-answer note (all-notes pool) (pool .capacity) → note .store ≤ 63
+admitted-store pool note admitted = accepted-store note (all-notes pool) (pool .capacity) admitted
+
+pub admitted-room : (pool : Pool) → Sound pool → (note : Note) → Ok tt ≡ put-answer note (all-notes pool) (pool .capacity) → 0 < pool .room
+admitted-room pool sound note admitted =
+    let room = accepted-room note (all-notes pool) (pool .capacity) admitted in
+    let count = free-count-of pool sound in omega arith
+
 -- a store that has a note is one of the 64, and its chain has a place
-module _ (pool : Pool) (s : ℕ) (note : Note) (has : Some note ≡ front (by-store pool s)) where
+module _ (pool : Pool) (s : ℕ) (has : 0 < length (by-store pool s)) where
   pub has-store : s < 64
   has-store =
       ⊎-elim (λ h. h)
-      (λ past. let none : Some note ≡ None = has ∙ ap front (notes-past (now (pool .slots)) (pool .heads) (pool .capacity) s past) in let z : _≡_ {A = ℕ} 0 1 = cc in absurd (omega arith))
+      (λ past. let none = ap length (notes-past (now (pool .slots)) (pool .heads) (pool .capacity) s past) in absurd (omega arith))
       (cases-lt s 64)
 
-  pub has-first : by-store pool s ≡ note ∷ drop 1 (by-store pool s)
-  has-first = by-notes (by-store pool s) has
-    where
-      by-notes : (ns : List Note) → Some note ≡ front ns → ns ≡ note ∷ drop 1 ns
-      by-notes [] e = let z : _≡_ {A = ℕ} 0 1 = cc in absurd (omega arith)
-      by-notes (n ∷ ns) e = cc
-
-  pub movable-taken : (blank : Note) → blank .store ≡ 64 → length (pool .heads) ≡ 65 → length (pool .tails) ≡ 65 → Movable (now (pool .slots)) (pool .heads) (pool .tails) (pool .capacity) s blank
-  movable-taken blank to-free many-heads many-tails =
+  pub movable-taken : Sound pool → (blank : Note) → blank .store ≡ 64 → length (pool .heads) ≡ 65 → length (pool .tails) ≡ 65 → Movable (now (pool .slots)) (pool .heads) (pool .tails) (pool .capacity) s blank
+  movable-taken sound blank to-free many-heads many-tails =
       let known = has-store in
-      let places = length-map (chain (now (pool .slots)) (pool .heads) (pool .capacity) s) (note-at (now (pool .slots))) in
-      let within = ap length (store-within pool s known ∙ has-first) in
+      let places = length-map (places-of pool s) (note-at (now (pool .slots))) in
+      let within = ap length (store-within pool s known) in
       record {
-        kept = record { whole = pool .whole; owned = pool .owned; ended = pool .ended };
-        limit = pool .limit;
-        lent = pool .lent;
+        kept = kept-of pool sound;
+        limit = sound .sized .0;
+        lent = sound .sized .1;
         many-heads = many-heads;
         many-tails = many-tails;
         low = omega arith;

@@ -23,11 +23,11 @@ use Rattle.line.specs.Calls.{Put, Taken}
 use Rattle.chains.specs.declared.Pool.{Pool}
 use Rattle.chains.specs.declared.Slot.{Slot}
 use Rattle.chains.specs.Gathered.{gathered}
-use Rattle.chains.specs.Stores.{by-store, all-notes, capacity-of, front, Elsewhere, PutFirst, PutLast, TakenFirst}
+use Rattle.chains.specs.Stores.{Sound, by-store, all-notes, capacity-of, front, Elsewhere, InFront, Behind, Removed}
 use Rattle.chains.specs.Tables.{held}
 use Rattle.chains.specs.Walk.{holds, chain}
 use Rattle.chains.proofs.Linked.{note-at}
-use Rattle.chains.proofs.Puts.{free-count-of, store-within, has-store, has-first}
+use Rattle.chains.proofs.Puts.{free-count-of, store-within, has-store}
 use Rattle.chains.proofs.Tables.{notes-past}
 use Rattle.chains.proofs.Updated.{upd, upd-same, upd-other, gathered-same, gathered-none}
 
@@ -76,17 +76,25 @@ module _ {X : Type 0} (f g : ℕ → List X) (t : ℕ) (x : X) (a b : List X) (o
 
 -- ---- the calls of a pool
 
-pub first-waits : (note : Note) (old new : Pool) → note .store ≤ 63 → (by-store new (note .store) ≡ note ∷ by-store old (note .store)) × Elsewhere (note .store) (by-store old) (by-store new) → Shuffled (note ∷ all-notes old) (all-notes new)
+pub first-waits : (note : Note) (old new : Pool) → note .store ≤ 63 → InFront note old new → Shuffled (note ∷ all-notes old) (all-notes new)
 first-waits note old new known put =
     one-more (by-store old) (by-store new) (note .store) note [] (by-store old (note .store)) refl (put .0) (put .1) 64 (omega arith)
 
-pub last-waits : (note : Note) (old new : Pool) → note .store ≤ 63 → (by-store new (note .store) ≡ by-store old (note .store) ++ note ∷ []) × Elsewhere (note .store) (by-store old) (by-store new) → Shuffled (note ∷ all-notes old) (all-notes new)
+pub last-waits : (note : Note) (old new : Pool) → note .store ≤ 63 → Behind note old new → Shuffled (note ∷ all-notes old) (all-notes new)
 last-waits note old new known put =
     one-more (by-store old) (by-store new) (note .store) note (by-store old (note .store)) [] (sym (append-nil (by-store old (note .store)))) (put .0) (put .1) 64 (omega arith)
 
+-- the first note is gone, and was the one that was handed out
+pub taken-is : (note : Note) (s : ℕ) (old new : Pool) → Some note ≡ front (by-store old s) → Removed s old new → (by-store old s ≡ note ∷ by-store new s) × Elsewhere s (by-store old) (by-store new)
+taken-is note s old new has removed = (by-notes (by-store old s) has ∙ ap (λ ns. note ∷ ns) (sym (removed .0)), removed .1)
+  where
+    by-notes : (ns : List Note) → Some note ≡ front ns → ns ≡ note ∷ drop 1 ns
+    by-notes [] e = let z : _≡_ {A = ℕ} 0 1 = cc in absurd (omega arith)
+    by-notes (n ∷ ns) e = cc
+
 pub taken-waits : (note : Note) (s : ℕ) (old new : Pool) → (by-store old s ≡ note ∷ by-store new s) × Elsewhere s (by-store old) (by-store new) → Shuffled (note ∷ all-notes new) (all-notes old)
 taken-waits note s old new taken =
-    one-more (by-store new) (by-store old) s note [] (by-store new s) refl (taken .0) (λ r ne. sym (taken .1 r ne)) 64 (has-store old s note (sym (ap front (taken .0))))
+    one-more (by-store new) (by-store old) s note [] (by-store new s) refl (taken .0) (λ r ne. sym (taken .1 r ne)) 64 (has-store old s (let some = ap length (taken .0) in omega arith))
 
 -- ---- the law
 
@@ -101,28 +109,30 @@ held-stores slots s (p ∷ ps) h =
     let both = and-parts (holds slots s p) (all-pass (holds slots s) ps) h in
     (eqb-true _ s (both .0), held-stores slots s ps (both .1))
 
-module _ (pool : Pool) where
+module _ (pool : Pool) (sound : Sound pool) where
   -- a note stands with the store that it names
   pub at-home : (s : ℕ) → s < 64 → All (λ n. n .store ≡ s) (by-store pool s)
   at-home s known =
       subst (All (λ n. n .store ≡ s)) (store-within pool s known)
-      (held-stores (now (pool .slots)) s (chain (now (pool .slots)) (pool .heads) (pool .capacity) s) (pool .owned s (omega arith)))
+      (held-stores (now (pool .slots)) s (chain (now (pool .slots)) (pool .heads) (pool .capacity) s) (sound .chained s (omega arith) .0))
 
   choice-none : (s : ℕ) → by-store pool s ≡ [] → All (λ n. n .store ≡ s → ⊥) (all-notes pool)
   choice-none s none =
       gathered-all (λ n. n .store ≡ s → ⊥) (by-store pool) 64
       (λ t known. ⊎-elim
-        (λ e. subst (All (λ n. n .store ≡ s → ⊥)) (sym (ap (by-store pool) e ∙ none)) tt)
-        (λ ne. all-weaker (λ n. n .store ≡ t) (λ n. n .store ≡ s → ⊥) (λ n here there. ne (sym here ∙ there)) (by-store pool t) (at-home t known))
-        (cases-eq t s))
+      (λ e. subst (All (λ n. n .store ≡ s → ⊥)) (sym (ap (by-store pool) e ∙ none)) tt)
+      (λ ne. all-weaker (λ n. n .store ≡ t) (λ n. n .store ≡ s → ⊥) (λ n here there. ne (sym here ∙ there)) (by-store pool t) (at-home t known))
+      (cases-eq t s))
 
   choice-some : (s : ℕ) (note : Note) (rest : List Note) → by-store pool s ≡ note ∷ rest → Has (all-notes pool) note × (note .store ≡ s)
   choice-some s note rest is =
-      let known = has-store pool s note (sym (ap front is)) in
+      let some = ap length is in
+      let known = has-store pool s (omega arith) in
       let without = upd (by-store pool) s rest in
-      let shuffled = one-more without (by-store pool) s note [] rest (upd-same (by-store pool) s rest) is (λ t ne. sym (upd-other (by-store pool) s rest t ne)) 64 known in
-      (has-shuffled (note ∷ gathered without 64) (all-notes pool) note shuffled (0, omega arith, λ d. refl),
-       subst (All (λ n. n .store ≡ s)) is (at-home s known) .0)
+      let shuffled = one-more without (by-store pool) s note [] rest (upd-same (by-store pool) s rest) is (λ t ne. sym (upd-other (by-store pool) s rest t ne)) 64 known in (
+        has-shuffled (note ∷ gathered without 64) (all-notes pool) note shuffled (0, omega arith, λ d. refl),
+        subst (All (λ n. n .store ≡ s)) is (at-home s known) .0,
+      )
 
   choice : (s : ℕ) (ns : List Note) → by-store pool s ≡ ns → Choice (all-notes pool) s (front ns)
   choice s [] is = choice-none s is
@@ -130,10 +140,10 @@ module _ (pool : Pool) where
 
   pub pool-lawful : Lawful (all-notes pool) (capacity-of pool) (λ s. front (by-store pool s))
   pool-lawful = record {
-    within = let count = free-count-of pool in omega arith;
-    limit = pool .limit;
+    within = let count = free-count-of pool sound in omega arith;
+    limit = sound .sized .0;
     stores = gathered-all (λ n. n .store ≤ 63) (by-store pool) 64 (λ s known. all-weaker (λ n. n .store ≡ s) (λ n. n .store ≤ 63) (λ n here. omega arith) (by-store pool s) (at-home s known));
-    choice = λ s. choice s (by-store pool s) refl
+    choice = λ s. choice s (by-store pool s) refl;
   }
 
 -- a pool with no note for any store

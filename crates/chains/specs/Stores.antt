@@ -1,10 +1,12 @@
 -- The notes of each store in a pool, and what a call leaves of them. Assumes nothing.
 use mathlib.Core.Path.{_≡_}
-use mathlib.Core.Bool.{cond}
+use mathlib.Core.Bool.{true, cond}
 use mathlib.Core.List.{List, [], _∷_, _++_}
-use Prim.Native.Nat.{ℕ}
+use Prim.Native.Nat.{ℕ, _≤_, _<_}
 use denote.Ref.{now}
-use lib.Dec.{leb, ltb}
+use lib.Dec.{ltb}
+use lib.ListN.{length, getD, drop}
+use Rattle.std.specs.shelf.Lawful.{all-pass}
 use Rattle.std.specs.declared.option.Option.{Option}
 use Rattle.std.specs.declared.option.Option.the-variants.{None, Some}
 use Rattle.std.specs.declared.result.Result.{Result}
@@ -14,6 +16,7 @@ use Rattle.chains.specs.declared.Slot.{Slot}
 use Rattle.chains.specs.declared.Pool.{Pool}
 use Rattle.chains.specs.Gathered.{gathered}
 use Rattle.chains.specs.Tables.{held}
+use Rattle.chains.specs.Walk.{chain, holds, last-or}
 
 -- the notes on the chain of store s, first to last; no chain is for a store above 63
 abbrev pub notes-in : List Slot → List ℕ → ℕ → ℕ → List Note
@@ -22,8 +25,33 @@ notes-in slots heads capacity s = cond (ltb s 64) (held slots heads capacity s) 
 abbrev pub by-store : Pool → ℕ → List Note
 by-store pool = notes-in (now (pool .slots)) (pool .heads) (pool .capacity)
 
+-- the places of a chain of the pool
+abbrev pub places-of : Pool → ℕ → List ℕ
+places-of pool = chain (now (pool .slots)) (pool .heads) (pool .capacity)
+
 abbrev pub capacity-of : Pool → ℕ
 capacity-of pool = pool .capacity
+
+-- the capacity is within the limit and the buffer
+abbrev pub Sized : Pool → Type 0
+Sized pool = (pool .capacity ≤ 16384) × (pool .capacity ≤ length (now (pool .slots)))
+
+-- the chains have as many places as the capacity says, and the free one as many as are counted
+abbrev pub Counted : Pool → Type 0
+Counted pool = (length (gathered (places-of pool) 65) ≡ pool .capacity) × (length (places-of pool 64) ≡ pool .room)
+
+-- each place stands on the chain that its note names, and each tail is the last place of its chain
+abbrev pub Chained : Pool → Type 0
+Chained pool =
+    (s : ℕ) → s < 65 → (all-pass (holds (now (pool .slots)) s) (places-of pool s) ≡ true) × (last-or (getD (pool .tails) s 0) (places-of pool s) ≡ getD (pool .tails) s 0)
+
+pub record Sound (pool : Pool) : Type 0 where
+  pub sized : Sized pool
+  pub counted : Counted pool
+  pub chained : Chained pool
+
+abbrev pub sound-of : {pool : Pool} → Sized pool → Counted pool → Chained pool → Sound pool
+sound-of sized counted chained = record { sized = sized; counted = counted; chained = chained }
 
 -- the notes of all stores
 abbrev pub all-notes : Pool → List Note
@@ -34,24 +62,31 @@ abbrev pub front : List Note → Option Note
 front [] = None
 front (note ∷ _) = Some note
 
--- whether a buffer of so many places does for a capacity: the limit first, then the buffer
-abbrev pub ask-answer : ℕ → ℕ → Result (Unit {0}) (ℕ × ℕ)
-ask-answer places capacity = cond (leb capacity 16384) (cond (leb capacity places) (Ok tt) (Err (3, 0))) (Err (2, 0))
-
 -- every store but t has the notes that it had
 abbrev pub Elsewhere : ℕ → (ℕ → List Note) → (ℕ → List Note) → Type 0
 Elsewhere t old new = (s : ℕ) → (s ≡ t → ⊥) → new s ≡ old s
 
--- after a put in front: the note stands before those of its store, or the pool is as it was
-abbrev pub PutFirst : Result (Unit {0}) (ℕ × ℕ) → Note → Pool → Pool → Type 0
-PutFirst (Ok _) note old new =
+-- the note stands before those that its store had
+abbrev pub InFront : Note → Pool → Pool → Type 0
+InFront note old new =
     (by-store new (note .store) ≡ note ∷ by-store old (note .store)) × Elsewhere (note .store) (by-store old) (by-store new)
+
+-- the note stands behind those that its store had
+abbrev pub Behind : Note → Pool → Pool → Type 0
+Behind note old new =
+    (by-store new (note .store) ≡ by-store old (note .store) ++ note ∷ []) × Elsewhere (note .store) (by-store old) (by-store new)
+
+-- the first note of store s is gone
+abbrev pub Removed : ℕ → Pool → Pool → Type 0
+Removed s old new = (by-store new s ≡ drop 1 (by-store old s)) × Elsewhere s (by-store old) (by-store new)
+
+-- after a put that was refused, the pool is as it was
+abbrev pub PutFirst : Result (Unit {0}) (ℕ × ℕ) → Note → Pool → Pool → Type 0
+PutFirst (Ok _) note old new = InFront note old new
 PutFirst (Err _) note old new = new ≡ old
 
--- after a put behind: the note stands after those of its store, or the pool is as it was
 abbrev pub PutLast : Result (Unit {0}) (ℕ × ℕ) → Note → Pool → Pool → Type 0
-PutLast (Ok _) note old new =
-    (by-store new (note .store) ≡ by-store old (note .store) ++ note ∷ []) × Elsewhere (note .store) (by-store old) (by-store new)
+PutLast (Ok _) note old new = Behind note old new
 PutLast (Err _) note old new = new ≡ old
 
 -- after a take for store s: its first note is gone, or it had none and the pool is as it was

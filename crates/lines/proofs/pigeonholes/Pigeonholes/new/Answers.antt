@@ -1,0 +1,8 @@
+use Rattle.chains.proofs.Waiting.{none-wait}
+use Rattle.lines.proofs.pigeonholes.Pigeonholes.new.Needs as need
+
+pub returns : need.returns
+returns c = record {
+  size = c .new .ensures .size;
+  empty = none-wait (c .new .result) (c .new .ensures .empty);
+}
