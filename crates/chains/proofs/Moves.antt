@@ -10,9 +10,11 @@ use lib.ListN.{length, getD, set, drop}
 use Rattle.std.proofs.shelf.Lists.{length-set, length-push}
 use Rattle.std.proofs.shelf.Tests.{lt-ltb, cond-true}
 use Rattle.line.specs.declared.Note.{Note}
+use Rattle.chains.specs.declared.End.{End}
+use Rattle.chains.specs.declared.End.the-variants.{Front, Back}
 use Rattle.chains.specs.declared.Slot.{Slot}
 use Rattle.chains.specs.Gathered.{gathered}
-use Rattle.chains.specs.Tables.{Kept, Movable, Moved, held}
+use Rattle.chains.specs.Tables.{Kept, Movable, Moved, held, joined}
 use Rattle.chains.specs.Walk.{slot, slot-at, walk, chain, linked-to}
 use Rattle.chains.proofs.Linked.{note-at}
 use Rattle.chains.proofs.Tables.{threads-of, kept-by, held-is, chain-first}
@@ -70,13 +72,13 @@ module _ (slots : List Slot) (heads tails : List ℕ) (cap from : ℕ) (n : Note
     kept-then : Kept slots′ heads′ tails′ cap
     kept-then = kept-by slots′ heads′ tails′ cap (upd places₁ (n .store) ps) (upd notes₁ (n .store) ns) threads whole
 
-    moved-then : Moved from n (held slots heads cap) (held slots′ heads′ cap) ns
-    moved-then =
+    moved-then : (at : End) → ns ≡ joined at n (held slots heads cap (n .store)) → Moved at from n (held slots heads cap) (held slots′ heads′ cap)
+    moved-then at is-notes =
         let is = held-is slots′ heads′ tails′ cap (upd places₁ (n .store) ps) (upd notes₁ (n .store) ns) threads whole in
         record {
           left = is from (can .low) ∙ upd-other notes₁ (n .store) ns from (can .apart) ∙ upd-same (held slots heads cap) from (map (note-at slots) stay) ∙ ap (drop 1) (sym held-from);
           had = let size = ap length held-from in omega arith;
-          joins = is (n .store) (can .known) ∙ upd-same notes₁ (n .store) ns;
+          joins = is (n .store) (can .known) ∙ upd-same notes₁ (n .store) ns ∙ is-notes;
           others = λ s below not-from not-to. is s below ∙ upd-other notes₁ (n .store) ns s not-to ∙ upd-other (held slots heads cap) from (map (note-at slots) stay) s not-from;
         }
 
@@ -111,10 +113,9 @@ module _ (slots : List Slot) (heads tails : List ℕ) (cap from : ℕ) (n : Note
       pub front-kept : Kept slots′ heads′ tails′ cap
       front-kept = kept-then slots′ heads′ tails′ (place ∷ places₁ (n .store)) (n ∷ notes₁ (n .store)) (omega arith) front-threads
 
-      pub front-moved : Moved from n (held slots heads cap) (held slots′ heads′ cap) (n ∷ held slots heads cap (n .store))
+      pub front-moved : Moved Front from n (held slots heads cap) (held slots′ heads′ cap)
       front-moved =
-          subst (λ ms. Moved from n (held slots heads cap) (held slots′ heads′ cap) (n ∷ ms)) joined-before
-          (moved-then slots′ heads′ tails′ (place ∷ places₁ (n .store)) (n ∷ notes₁ (n .store)) (omega arith) front-threads)
+          moved-then slots′ heads′ tails′ (place ∷ places₁ (n .store)) (n ∷ notes₁ (n .store)) (omega arith) front-threads Front (ap (λ ms. n ∷ ms) joined-before)
 
     module _ (slots′ : List Slot) (heads′ tails′ : List ℕ) (end : ℕ) (past : cap ≤ end) (is-slots : slots′ ≡ cond (ltb head cap) (linked-to (set slots p (slot n end)) (getD tails (n .store) 0) p) (set slots p (slot n end)))
         (is-heads : heads′ ≡ cond (ltb head cap) heads-mid (set heads-mid (n .store) p)) (is-tails : tails′ ≡ set tails (n .store) p) where
@@ -129,7 +130,6 @@ module _ (slots : List Slot) (heads tails : List ℕ) (cap from : ℕ) (n : Note
       pub back-kept : Kept slots′ heads′ tails′ cap
       back-kept = kept-then slots′ heads′ tails′ (places₁ (n .store) ++ place ∷ []) (notes₁ (n .store) ++ n ∷ []) (length-push (places₁ (n .store)) place) back-threads
 
-      pub back-moved : Moved from n (held slots heads cap) (held slots′ heads′ cap) (held slots heads cap (n .store) ++ n ∷ [])
+      pub back-moved : Moved Back from n (held slots heads cap) (held slots′ heads′ cap)
       back-moved =
-          subst (λ ms. Moved from n (held slots heads cap) (held slots′ heads′ cap) (ms ++ n ∷ [])) joined-before
-          (moved-then slots′ heads′ tails′ (places₁ (n .store) ++ place ∷ []) (notes₁ (n .store) ++ n ∷ []) (length-push (places₁ (n .store)) place) back-threads)
+          moved-then slots′ heads′ tails′ (places₁ (n .store) ++ place ∷ []) (notes₁ (n .store) ++ n ∷ []) (length-push (places₁ (n .store)) place) back-threads Back (ap (λ ms. ms ++ n ∷ []) joined-before)

@@ -8,15 +8,17 @@ use denote.Ref.{now}
 use lib.Dec.{ltb}
 use lib.ListN.{length, getD, drop}
 use Rattle.std.specs.declared.result.Result.the-variants.{Ok}
-use Rattle.std.proofs.shelf.Lists.{length-drop, length-map}
+use Rattle.std.proofs.shelf.Lists.{length-drop, length-map, length-push}
 use Rattle.std.proofs.shelf.Tests.{cases-lt, le-ltb, cond-false}
 use Rattle.line.specs.declared.Note.{Note}
 use Rattle.line.specs.Calls.{put-answer}
 use Rattle.line.proofs.Lines.{accepted-store, accepted-room}
+use Rattle.chains.specs.declared.End.{End}
+use Rattle.chains.specs.declared.End.the-variants.{Front, Back}
 use Rattle.chains.specs.declared.Pool.{Pool}
 use Rattle.chains.specs.declared.Slot.{Slot}
 use Rattle.chains.specs.Stores.{Sound, notes-in, by-store, all-notes, places-of, Elsewhere}
-use Rattle.chains.specs.Tables.{Kept, Movable, Moved, held}
+use Rattle.chains.specs.Tables.{Kept, Movable, Moved, held, joined}
 use Rattle.chains.specs.Walk.{chain, slot-at}
 use Rattle.chains.proofs.Linked.{note-at}
 use Rattle.chains.proofs.Tables.{notes-within, notes-past, chain-first, free-count}
@@ -91,8 +93,12 @@ module _ (pool : Pool) (s : ℕ) (has : 0 < length (by-store pool s)) where
         some = starts (now (pool .slots)) (pool .heads) (pool .capacity) s (omega arith);
       }
 
-module _ (slots slots′ : List Slot) (heads heads′ : List ℕ) (cap from : ℕ) (n : Note) (joined : List Note)
-    (moved : Moved from n (held slots heads cap) (held slots′ heads′ cap) joined) where
+length-joined : (at : End) (n : Note) (ns : List Note) → length (joined at n ns) ≡ length ns + 1
+length-joined Front n ns = omega arith
+length-joined Back n ns = length-push ns n
+
+module _ (slots slots′ : List Slot) (heads heads′ : List ℕ) (cap from : ℕ) (n : Note) (at : End)
+    (moved : Moved at from n (held slots heads cap) (held slots′ heads′ cap)) where
   -- the chain that a place left is shorter by one
   pub shorter : length (chain slots heads cap from) ≡ length (chain slots′ heads′ cap from) + 1
   shorter =
@@ -104,8 +110,9 @@ module _ (slots slots′ : List Slot) (heads heads′ : List ℕ) (cap from : �
       omega arith
 
   -- the store of the note
-  pub joins : n .store < 64 → notes-in slots′ heads′ cap (n .store) ≡ joined
-  joins known = notes-within slots′ heads′ cap (n .store) known ∙ moved .joins
+  pub joins : n .store < 64 → notes-in slots′ heads′ cap (n .store) ≡ joined at n (notes-in slots heads cap (n .store))
+  joins known =
+      notes-within slots′ heads′ cap (n .store) known ∙ moved .joins ∙ ap (joined at n) (sym (notes-within slots heads cap (n .store) known))
 
   pub rest-left : from < 64 → notes-in slots′ heads′ cap from ≡ drop 1 (notes-in slots heads cap from)
   rest-left known =
@@ -120,9 +127,10 @@ module _ (slots slots′ : List Slot) (heads heads′ : List ℕ) (cap from : �
       (λ past. notes-past slots′ heads′ cap s past ∙ sym (notes-past slots heads cap s past))
       (cases-lt s 64)
 
--- the chain that a place joined in front is longer by one
-pub longer : (slots slots′ : List Slot) (heads heads′ : List ℕ) (cap from : ℕ) (n : Note) → Moved from n (held slots heads cap) (held slots′ heads′ cap) (n ∷ held slots heads cap (n .store)) → length (chain slots′ heads′ cap (n .store)) ≡ length (chain slots heads cap (n .store)) + 1
-longer slots slots′ heads heads′ cap from n moved =
-    let old = length-map (chain slots heads cap (n .store)) (note-at slots) in
-    let new = length-map (chain slots′ heads′ cap (n .store)) (note-at slots′) in
-    let joins = ap length (moved .joins) in omega arith
+  -- the chain that a place joined is longer by one
+  pub longer : length (chain slots′ heads′ cap (n .store)) ≡ length (chain slots heads cap (n .store)) + 1
+  longer =
+      let old = length-map (chain slots heads cap (n .store)) (note-at slots) in
+      let new = length-map (chain slots′ heads′ cap (n .store)) (note-at slots′) in
+      let joins = ap length (moved .joins) in
+      let more = length-joined at n (held slots heads cap (n .store)) in omega arith

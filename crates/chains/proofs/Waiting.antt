@@ -20,10 +20,12 @@ use Rattle.std.proofs.shelf.Tests.{cases-eq, cases-lt, eqb-true, and-parts}
 use Rattle.line.specs.declared.Note.{Note}
 use Rattle.line.specs.Law.{Lawful, Choice}
 use Rattle.line.specs.Calls.{Put, Taken}
+use Rattle.chains.specs.declared.End.{End}
+use Rattle.chains.specs.declared.End.the-variants.{Front, Back}
 use Rattle.chains.specs.declared.Pool.{Pool}
 use Rattle.chains.specs.declared.Slot.{Slot}
 use Rattle.chains.specs.Gathered.{gathered}
-use Rattle.chains.specs.Stores.{Sound, by-store, all-notes, capacity-of, front, Elsewhere, InFront, Behind, Removed}
+use Rattle.chains.specs.Stores.{Sound, by-store, all-notes, capacity-of, front, Elsewhere, Placed, Removed}
 use Rattle.chains.specs.Tables.{held}
 use Rattle.chains.specs.Walk.{holds, chain}
 use Rattle.chains.proofs.Linked.{note-at}
@@ -76,12 +78,11 @@ module _ {X : Type 0} (f g : ℕ → List X) (t : ℕ) (x : X) (a b : List X) (o
 
 -- ---- the calls of a pool
 
-pub first-waits : (note : Note) (old new : Pool) → note .store ≤ 63 → InFront note old new → Shuffled (note ∷ all-notes old) (all-notes new)
-first-waits note old new known put =
+-- a note that was put waits once more
+pub placed-waits : (end : End) (note : Note) (old new : Pool) → note .store ≤ 63 → Placed end note old new → Shuffled (note ∷ all-notes old) (all-notes new)
+placed-waits Front note old new known put =
     one-more (by-store old) (by-store new) (note .store) note [] (by-store old (note .store)) refl (put .0) (put .1) 64 (omega arith)
-
-pub last-waits : (note : Note) (old new : Pool) → note .store ≤ 63 → Behind note old new → Shuffled (note ∷ all-notes old) (all-notes new)
-last-waits note old new known put =
+placed-waits Back note old new known put =
     one-more (by-store old) (by-store new) (note .store) note (by-store old (note .store)) [] (sym (append-nil (by-store old (note .store)))) (put .0) (put .1) 64 (omega arith)
 
 -- the first note is gone, and was the one that was handed out

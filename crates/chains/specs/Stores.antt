@@ -1,7 +1,7 @@
 -- The notes of each store in a pool, and what a call leaves of them. Assumes nothing.
 use mathlib.Core.Path.{_≡_}
 use mathlib.Core.Bool.{true, cond}
-use mathlib.Core.List.{List, [], _∷_, _++_}
+use mathlib.Core.List.{List, [], _∷_}
 use Prim.Native.Nat.{ℕ, _≤_, _<_}
 use denote.Ref.{now}
 use lib.Dec.{ltb}
@@ -13,9 +13,10 @@ use Rattle.std.specs.declared.result.Result.{Result}
 use Rattle.std.specs.declared.result.Result.the-variants.{Ok, Err}
 use Rattle.line.specs.declared.Note.{Note}
 use Rattle.chains.specs.declared.Slot.{Slot}
+use Rattle.chains.specs.declared.End.{End}
 use Rattle.chains.specs.declared.Pool.{Pool}
 use Rattle.chains.specs.Gathered.{gathered}
-use Rattle.chains.specs.Tables.{held}
+use Rattle.chains.specs.Tables.{held, joined}
 use Rattle.chains.specs.Walk.{chain, holds, last-or}
 
 -- the notes on the chain of store s, first to last; no chain is for a store above 63
@@ -66,28 +67,19 @@ front (note ∷ _) = Some note
 abbrev pub Elsewhere : ℕ → (ℕ → List Note) → (ℕ → List Note) → Type 0
 Elsewhere t old new = (s : ℕ) → (s ≡ t → ⊥) → new s ≡ old s
 
--- the note stands before those that its store had
-abbrev pub InFront : Note → Pool → Pool → Type 0
-InFront note old new =
-    (by-store new (note .store) ≡ note ∷ by-store old (note .store)) × Elsewhere (note .store) (by-store old) (by-store new)
-
--- the note stands behind those that its store had
-abbrev pub Behind : Note → Pool → Pool → Type 0
-Behind note old new =
-    (by-store new (note .store) ≡ by-store old (note .store) ++ note ∷ []) × Elsewhere (note .store) (by-store old) (by-store new)
+-- the note stands before those that its store had, or behind them
+abbrev pub Placed : End → Note → Pool → Pool → Type 0
+Placed end note old new =
+    (by-store new (note .store) ≡ joined end note (by-store old (note .store))) × Elsewhere (note .store) (by-store old) (by-store new)
 
 -- the first note of store s is gone
 abbrev pub Removed : ℕ → Pool → Pool → Type 0
 Removed s old new = (by-store new s ≡ drop 1 (by-store old s)) × Elsewhere s (by-store old) (by-store new)
 
--- after a put that was refused, the pool is as it was
-abbrev pub PutFirst : Result (Unit {0}) (ℕ × ℕ) → Note → Pool → Pool → Type 0
-PutFirst (Ok _) note old new = InFront note old new
-PutFirst (Err _) note old new = new ≡ old
-
-abbrev pub PutLast : Result (Unit {0}) (ℕ × ℕ) → Note → Pool → Pool → Type 0
-PutLast (Ok _) note old new = Behind note old new
-PutLast (Err _) note old new = new ≡ old
+-- after a put: the note stands at that end of its store's notes, or the pool is as it was
+abbrev pub PutAt : End → Result (Unit {0}) (ℕ × ℕ) → Note → Pool → Pool → Type 0
+PutAt end (Ok _) note old new = Placed end note old new
+PutAt end (Err _) note old new = new ≡ old
 
 -- after a take for store s: its first note is gone, or it had none and the pool is as it was
 abbrev pub TakenFirst : Option Note → ℕ → Pool → Pool → Type 0

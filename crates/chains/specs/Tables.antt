@@ -7,6 +7,8 @@ use Prim.Native.Nat.{ℕ, _≤_, _<_}
 use lib.ListN.{length, getD, drop}
 use Rattle.std.specs.shelf.Lawful.{all-pass}
 use Rattle.line.specs.declared.Note.{Note}
+use Rattle.chains.specs.declared.End.{End}
+use Rattle.chains.specs.declared.End.the-variants.{Front, Back}
 use Rattle.chains.specs.declared.Slot.{Slot}
 use Rattle.chains.specs.Gathered.{gathered}
 use Rattle.chains.specs.Walk.{slot-at, chain, holds, last-or}
@@ -33,9 +35,14 @@ pub record Movable (slots : List Slot) (heads tails : List ℕ) (capacity from :
 abbrev pub held : List Slot → List ℕ → ℕ → ℕ → List Note
 held slots heads capacity s = map (λ p. slot-at slots p .note) (chain slots heads capacity s)
 
--- the first place of one chain has left it for the note's chain, whose notes are the ones given now
-pub record Moved (from : ℕ) (note : Note) (old new : ℕ → List Note) (joined : List Note) : Type 0 where
+-- the notes of a chain with one more at an end
+abbrev pub joined : End → Note → List Note → List Note
+joined Front note notes = note ∷ notes
+joined Back note notes = notes ++ note ∷ []
+
+-- the first place of one chain has left it for the note's chain, and joined that at an end
+pub record Moved (end : End) (from : ℕ) (note : Note) (old new : ℕ → List Note) : Type 0 where
   pub left : new from ≡ drop 1 (old from)
   pub had : 0 < length (old from)
-  pub joins : new (note .store) ≡ joined
+  pub joins : new (note .store) ≡ joined end note (old (note .store))
   pub others : (s : ℕ) → s < 65 → s ≢ from → s ≢ note .store → new s ≡ old s

@@ -9,6 +9,13 @@ pub struct Slot {
     pub link: u32,
 }
 
+/// The end of a chain at which a note joins it.
+#[derive(Clone, Copy)]
+pub enum End {
+    Front,
+    Back,
+}
+
 /// The chains of the stores 0 to 63, and of the free places, which is chain 64. The store of the note at a place is the
 /// number of the chain that the place stands on.
 #[derive(Drop)]

@@ -8,6 +8,7 @@ ghost use lib.ListN.{length, getD, set};
 ghost use Rattle.chains.specs.Tables.{Kept, Movable, Moved, held};
 ghost use Rattle.chains.specs.Walk.{slot-at, slot, linked-to};
 use crate::END;
+use chains::End;
 use chains::Slot;
 use line::Note;
 
@@ -63,43 +64,31 @@ fn push_back(
     let to = note.store as usize;
     slots[place as usize] = Slot { note, link: END };
     if heads[to] < capacity {
-        slots[tails[to] as usize].link = place;
+        let last = tails[to];
+        slots[last as usize].link = place;
     } else {
         heads[to] = place;
     }
     tails[to] = place;
 }
 
-// Moves the first place of one chain to the front of the note's chain, with the note.
-pub(crate) fn move_front(
+// Moves the first place of one chain to an end of the note's chain, with the note.
+pub(crate) fn carry(
     slots: &mut [Slot],
     heads: &mut [u32],
     tails: &mut [u32],
     capacity: u32,
     from: usize,
     note: Note,
+    end: End,
 )
     requires { ⌜ Movable (now slots) (now heads) (now tails) capacity from note ⌝ }
     ensures kept { λ _. ⌜ Kept (now (slots .exit)) (now (heads .exit)) (now (tails .exit)) capacity ⌝ }
-    ensures moved { λ _. ⌜ Moved from note (held (now (slots .entry)) (now (heads .entry)) capacity) (held (now (slots .exit)) (now (heads .exit)) capacity) (note ∷ held (now (slots .entry)) (now (heads .entry)) capacity (note .store)) ⌝ }
+    ensures moved { λ _. ⌜ Moved end from note (held (now (slots .entry)) (now (heads .entry)) capacity) (held (now (slots .exit)) (now (heads .exit)) capacity) ⌝ }
 {
     let place = pop(slots, heads, from);
-    push_front(slots, heads, tails, capacity, place, note);
-}
-
-// Moves the first place of one chain to the end of the note's chain, with the note.
-pub(crate) fn move_back(
-    slots: &mut [Slot],
-    heads: &mut [u32],
-    tails: &mut [u32],
-    capacity: u32,
-    from: usize,
-    note: Note,
-)
-    requires { ⌜ Movable (now slots) (now heads) (now tails) capacity from note ⌝ }
-    ensures kept { λ _. ⌜ Kept (now (slots .exit)) (now (heads .exit)) (now (tails .exit)) capacity ⌝ }
-    ensures moved { λ _. ⌜ Moved from note (held (now (slots .entry)) (now (heads .entry)) capacity) (held (now (slots .exit)) (now (heads .exit)) capacity) (held (now (slots .entry)) (now (heads .entry)) capacity (note .store) ++ note ∷ []) ⌝ }
-{
-    let place = pop(slots, heads, from);
-    push_back(slots, heads, tails, capacity, place, note);
+    match end {
+        End::Front => push_front(slots, heads, tails, capacity, place, note),
+        End::Back => push_back(slots, heads, tails, capacity, place, note),
+    }
 }

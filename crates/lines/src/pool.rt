@@ -5,11 +5,12 @@ ghost use Prim.Native.Nat.{ℕ, min, _-_, _<_};
 ghost use lib.ListN.{length};
 ghost use Rattle.std.specs.declared.result.Result.the-variants.{Ok};
 ghost use Rattle.line.specs.Calls.{put-answer};
-ghost use Rattle.chains.specs.Stores.{Sound, by-store, all-notes, capacity-of, front, InFront, Behind, Removed};
+ghost use Rattle.chains.specs.Stores.{Sound, by-store, all-notes, capacity-of, front, Placed, Removed};
 use crate::END;
 use crate::FREE;
 use crate::NO_NOTE;
 use crate::links;
+use chains::End;
 use chains::Pool;
 use chains::Slot;
 use faults::Fault;
@@ -86,11 +87,11 @@ pub(crate) fn admit(pool: &Pool, note: Note) -> Result<(), Fault>
     Ok(())
 }
 
-// Puts an admitted note in front of those of its store.
-pub(crate) fn put_first(pool: &mut Pool, note: Note)
+// Puts an admitted note at an end of those of its store.
+pub(crate) fn put(pool: &mut Pool, note: Note, end: End)
     requires sound { ⌜ Sound (now pool) ⌝ }
     requires admitted { ⌜ Ok tt ≡ put-answer note (all-notes (now pool)) (capacity-of (now pool)) ⌝ }
-    ensures notes { λ _. ⌜ InFront note (now (pool .entry)) (now (pool .exit)) ⌝ }
+    ensures notes { λ _. ⌜ Placed end note (now (pool .entry)) (now (pool .exit)) ⌝ }
     ensures size { λ _. ⌜ capacity-of (now (pool .exit)) ≡ capacity-of (now (pool .entry)) ⌝ }
     ensures sound { λ _. ⌜ Sound (now (pool .exit)) ⌝ }
 {
@@ -101,31 +102,12 @@ pub(crate) fn put_first(pool: &mut Pool, note: Note)
         room,
         capacity,
     } = pool;
-    links::move_front(slots, heads, tails, *capacity, FREE as usize, note);
-    *room -= 1;
-}
-
-// Puts an admitted note behind those of its store.
-pub(crate) fn put_last(pool: &mut Pool, note: Note)
-    requires sound { ⌜ Sound (now pool) ⌝ }
-    requires admitted { ⌜ Ok tt ≡ put-answer note (all-notes (now pool)) (capacity-of (now pool)) ⌝ }
-    ensures notes { λ _. ⌜ Behind note (now (pool .entry)) (now (pool .exit)) ⌝ }
-    ensures size { λ _. ⌜ capacity-of (now (pool .exit)) ≡ capacity-of (now (pool .entry)) ⌝ }
-    ensures sound { λ _. ⌜ Sound (now (pool .exit)) ⌝ }
-{
-    let Pool {
-        slots,
-        heads,
-        tails,
-        room,
-        capacity,
-    } = pool;
-    links::move_back(slots, heads, tails, *capacity, FREE as usize, note);
+    links::carry(slots, heads, tails, *capacity, FREE as usize, note, end);
     *room -= 1;
 }
 
 // Frees the place of the first note of a store that has one.
-pub(crate) fn remove_first(pool: &mut Pool, store: u32)
+pub(crate) fn remove(pool: &mut Pool, store: u32)
     requires sound { ⌜ Sound (now pool) ⌝ }
     requires some { ⌜ 0 < length (by-store (now pool) store) ⌝ }
     ensures notes { λ _. ⌜ Removed store (now (pool .entry)) (now (pool .exit)) ⌝ }
@@ -139,6 +121,14 @@ pub(crate) fn remove_first(pool: &mut Pool, store: u32)
         room,
         capacity,
     } = pool;
-    links::move_front(slots, heads, tails, *capacity, store as usize, NO_NOTE);
+    links::carry(
+        slots,
+        heads,
+        tails,
+        *capacity,
+        store as usize,
+        NO_NOTE,
+        End::Front,
+    );
     *room += 1;
 }

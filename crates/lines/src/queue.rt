@@ -4,9 +4,11 @@ ghost use mathlib.Core.List.{[]};
 ghost use Prim.Native.Nat.{min};
 ghost use lib.ListN.{length};
 ghost use Rattle.line.specs.Calls.{put-answer, Put, Taken};
-ghost use Rattle.chains.specs.Stores.{Sized, Counted, Chained, sound-of, by-store, all-notes, capacity-of, front, PutLast, TakenFirst};
+ghost use Rattle.chains.specs.declared.End.the-variants.{Back};
+ghost use Rattle.chains.specs.Stores.{Sized, Counted, Chained, sound-of, by-store, all-notes, capacity-of, front, PutAt, TakenFirst};
 ghost use Rattle.chains.proofs.Waiting.{pool-lawful};
 use crate::pool;
+use chains::End;
 use chains::Pool;
 use chains::Slot;
 use faults::Fault;
@@ -56,10 +58,10 @@ pub impl Line for Queue<'_> as QueueLine {
         ensures answer { λ r. ⌜ r ≡ put-answer note (all-notes (now (self .entry) .pool)) (capacity-of (now (self .entry) .pool)) ⌝ }
         ensures notes { λ r. ⌜ Put r note (λ q. all-notes (q .pool)) (now (self .entry)) (now (self .exit)) ⌝ }
         ensures size { λ _. ⌜ capacity-of (now (self .exit) .pool) ≡ capacity-of (now (self .entry) .pool) ⌝ }
-        ensures order { λ r. ⌜ PutLast r note (now (self .entry) .pool) (now (self .exit) .pool) ⌝ }
+        ensures order { λ r. ⌜ PutAt Back r note (now (self .entry) .pool) (now (self .exit) .pool) ⌝ }
     {
         pool::admit(&self.pool, note)?;
-        pool::put_last(&mut self.pool, note);
+        pool::put(&mut self.pool, note, End::Back);
         Ok(())
     }
 
@@ -74,8 +76,8 @@ pub impl Line for Queue<'_> as QueueLine {
         ensures size { λ _. ⌜ capacity-of (now (self .exit) .pool) ≡ capacity-of (now (self .entry) .pool) ⌝ }
         ensures order { λ r. ⌜ TakenFirst r store (now (self .entry) .pool) (now (self .exit) .pool) ⌝ }
     {
-        let note = pool::first(&self.pool, store)?;
-        pool::remove_first(&mut self.pool, store);
+        let note = self.next(store)?;
+        pool::remove(&mut self.pool, store);
         Some(note)
     }
 }
