@@ -25,8 +25,8 @@ use Rattle.chains.specs.declared.End.the-variants.{Front, Back}
 use Rattle.chains.specs.declared.Pool.{Pool}
 use Rattle.chains.specs.declared.Slot.{Slot}
 use Rattle.chains.specs.Gathered.{gathered}
-use Rattle.chains.specs.Stores.{Sound, by-store, all-notes, capacity-of, front, Elsewhere, Placed, Removed}
-use Rattle.chains.specs.Tables.{held}
+use Rattle.chains.specs.Stores.{Sound, by-store, all-notes, capacity-of, front, Elsewhere, Removed}
+use Rattle.chains.specs.Tables.{held, joined}
 use Rattle.chains.specs.Walk.{holds, chain}
 use Rattle.chains.proofs.Linked.{note-at}
 use Rattle.chains.proofs.Puts.{free-count-of, store-within, has-store}
@@ -79,11 +79,11 @@ module _ {X : Type 0} (f g : ℕ → List X) (t : ℕ) (x : X) (a b : List X) (o
 -- ---- the calls of a pool
 
 -- a note that was put waits once more
-pub placed-waits : (end : End) (note : Note) (old new : Pool) → note .store ≤ 63 → Placed end note old new → Shuffled (note ∷ all-notes old) (all-notes new)
-placed-waits Front note old new known put =
-    one-more (by-store old) (by-store new) (note .store) note [] (by-store old (note .store)) refl (put .0) (put .1) 64 (omega arith)
-placed-waits Back note old new known put =
-    one-more (by-store old) (by-store new) (note .store) note (by-store old (note .store)) [] (sym (append-nil (by-store old (note .store)))) (put .0) (put .1) 64 (omega arith)
+pub placed-waits : (end : End) (note : Note) (old new : ℕ → List Note) → note .store ≤ 63 → new (note .store) ≡ joined end note (old (note .store)) → Elsewhere (note .store) old new → Shuffled (note ∷ gathered old 64) (gathered new 64)
+placed-waits Front note old new known here others =
+    one-more old new (note .store) note [] (old (note .store)) refl here others 64 (omega arith)
+placed-waits Back note old new known here others =
+    one-more old new (note .store) note (old (note .store)) [] (sym (append-nil (old (note .store)))) here others 64 (omega arith)
 
 -- the first note is gone, and was the one that was handed out
 pub taken-is : (note : Note) (s : ℕ) (old new : Pool) → Some note ≡ front (by-store old s) → Removed s old new → (by-store old s ≡ note ∷ by-store new s) × Elsewhere s (by-store old) (by-store new)

@@ -1,9 +1,10 @@
 //! The pool of chains under both kinds of line.
 ghost use mathlib.Core.Path.{_≡_};
-ghost use mathlib.Core.List.{[]};
+ghost use mathlib.Core.List.{[], _∷_};
 ghost use Prim.Native.Nat.{ℕ, min, _-_, _<_};
 ghost use lib.ListN.{length};
 ghost use Rattle.std.specs.declared.result.Result.the-variants.{Ok};
+ghost use Rattle.std.specs.shelf.Sorted.{Shuffled};
 ghost use Rattle.line.specs.Calls.{put-answer};
 ghost use Rattle.chains.specs.Stores.{Sound, by-store, all-notes, capacity-of, front, Placed, Removed};
 use crate::END;
@@ -92,6 +93,7 @@ pub(crate) fn put(pool: &mut Pool, note: Note, end: End)
     requires sound { ⌜ Sound (now pool) ⌝ }
     requires admitted { ⌜ Ok tt ≡ put-answer note (all-notes (now pool)) (capacity-of (now pool)) ⌝ }
     ensures notes { λ _. ⌜ Placed end note (now (pool .entry)) (now (pool .exit)) ⌝ }
+    ensures waits { λ _. ⌜ Shuffled (note ∷ all-notes (now (pool .entry))) (all-notes (now (pool .exit))) ⌝ }
     ensures size { λ _. ⌜ capacity-of (now (pool .exit)) ≡ capacity-of (now (pool .entry)) ⌝ }
     ensures sound { λ _. ⌜ Sound (now (pool .exit)) ⌝ }
 {

@@ -1,6 +1,8 @@
 use mathlib.Core.Path.{refl}
 use native.Mathlib.Omega.{arith}
+use Rattle.chains.specs.Stores.{notes-in}
 use Rattle.chains.proofs.Puts.{admitted-store, admitted-room, movable-free, shorter, joins, others}
+use Rattle.chains.proofs.Waiting.{placed-waits}
 use Rattle.lines.proofs.pool.put.Needs as need
 
 pub carry-requires : need.carry-requires
@@ -19,11 +21,11 @@ returns c =
     let store = admitted-store pool note (c .pre .admitted) in
     let kept = carry .ensures .kept in
     let less = shorter (pool .slots .now) (carry .last .slots) (pool .heads) (carry .last .heads) (pool .capacity) 64 note (c .args .end) (carry .ensures .moved) in
+    let at-store = joins (pool .slots .now) (carry .last .slots) (pool .heads) (carry .last .heads) (pool .capacity) 64 note (c .args .end) (carry .ensures .moved) (omega arith) in
+    let elsewhere = others (pool .slots .now) (carry .last .slots) (pool .heads) (carry .last .heads) (pool .capacity) 64 note (c .args .end) (carry .ensures .moved) (note .store) (λ s l ne. (λ e. omega arith, ne)) in
     record {
-      notes = (
-        joins (pool .slots .now) (carry .last .slots) (pool .heads) (carry .last .heads) (pool .capacity) 64 note (c .args .end) (carry .ensures .moved) (omega arith),
-        others (pool .slots .now) (carry .last .slots) (pool .heads) (carry .last .heads) (pool .capacity) 64 note (c .args .end) (carry .ensures .moved) (note .store) (λ s l ne. (λ e. omega arith, ne)),
-      );
+      notes = (at-store, elsewhere);
+      waits = placed-waits (c .args .end) note (notes-in (pool .slots .now) (pool .heads) (pool .capacity)) (notes-in (carry .last .slots) (carry .last .heads) (pool .capacity)) store at-store elsewhere;
       size = refl;
       sound = record {
         sized = (c .pre .sound .sized .0, omega arith);

@@ -1,16 +1,10 @@
-use Rattle.chains.specs.declared.End.the-variants.{Front}
-use Rattle.chains.proofs.Puts.{admitted-store}
-use Rattle.chains.proofs.Waiting.{placed-waits}
+use borrow.Author.Needs.{needs}
 use Rattle.lines.proofs.pigeonholes.PigeonholesLine.put.Needs as need
 
 pub returns : need.returns
-returns c =
-    let pool = c .args .self .now .pool in
-    let put = c .put in
-    let admitted = c .in-Continue-admit .ensures tt in
-    record {
-      answer = admitted;
-      notes = placed-waits Front (c .args .note) pool (put .last .pool) (admitted-store pool (c .args .note) admitted) (put .ensures .notes);
-      size = put .ensures .size;
-      order = put .ensures .notes;
-    }
+returns c = record {
+  answer = c .in-Continue-admit .ensures tt;
+  notes = c .put .ensures .waits;
+  size = c .put .ensures .size;
+  order = search needs;
+}
