@@ -20,7 +20,7 @@ use Rattle.chains.specs.Tables.{Kept}
 use Rattle.chains.specs.Walk.{slot, no-note, chain}
 use Rattle.chains.proofs.Linked.{Free-of}
 use Rattle.chains.proofs.Tables.{kept-by, held-is, chain-is, notes-within, notes-past}
-use Rattle.chains.proofs.Threads.{Thread, Threads, Loose, front-step, thread-is}
+use Rattle.chains.proofs.Threads.{Threads, Loose, front-step, thread-is}
 use Rattle.chains.proofs.Updated.{upd, upd-same, upd-other, gathered-upd, gathered-none}
 
 -- the numbers below i, from the highest down

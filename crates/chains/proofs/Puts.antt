@@ -1,8 +1,8 @@
 -- What a move to or from the free chain does to the notes of the stores. Assumes nothing.
-use mathlib.Core.Path.{_≡_, refl, sym, ap, subst, _∙_}
-use mathlib.Core.List.{List, [], _∷_, map}
+use mathlib.Core.Path.{_≡_, sym, ap, _∙_}
+use mathlib.Core.List.{List, []}
 use mathlib.Core.Logic.{_≢_, ⊎-elim}
-use Prim.Native.Nat.{ℕ, _+_, _-_, _≤_, _<_}
+use Prim.Native.Nat.{ℕ, _+_, _≤_, _<_}
 use native.Mathlib.Omega.{arith}
 use denote.Ref.{now}
 use lib.Dec.{ltb}
@@ -19,7 +19,7 @@ use Rattle.chains.specs.declared.Pool.{Pool}
 use Rattle.chains.specs.declared.Slot.{Slot}
 use Rattle.chains.specs.Stores.{Sound, notes-in, by-store, all-notes, places-of, Elsewhere}
 use Rattle.chains.specs.Tables.{Kept, Movable, Moved, held, joined}
-use Rattle.chains.specs.Walk.{chain, slot-at}
+use Rattle.chains.specs.Walk.{chain}
 use Rattle.chains.proofs.Linked.{note-at}
 use Rattle.chains.proofs.Tables.{notes-within, notes-past, chain-first, free-count}
 

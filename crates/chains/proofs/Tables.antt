@@ -1,13 +1,12 @@
 -- From the facts that a pool keeps of its tables to the chains that they describe, and back. Assumes nothing.
-use mathlib.Core.Path.{_≡_, refl, sym, ap, subst, _∙_}
-use mathlib.Core.Bool.{Bool, true, false, cond}
-use mathlib.Core.List.{List, [], _∷_, _++_, map}
-use mathlib.Core.Logic.{_≢_, ⊎-elim}
-use Prim.Native.Nat.{ℕ, suc, _+_, _-_, _≤_, _<_}
+use mathlib.Core.Path.{_≡_, refl, ap, _∙_}
+use mathlib.Core.Bool.{cond}
+use mathlib.Core.List.{List, [], _∷_, map}
+use Prim.Native.Nat.{ℕ, _+_, _≤_, _<_}
 use native.Mathlib.Numerals.{add-one}
 use native.Mathlib.Omega.{arith}
 use lib.Dec.{ltb}
-use lib.ListN.{length, getD, set}
+use lib.ListN.{length, getD}
 use Rattle.std.specs.shelf.Lawful.{all-pass}
 use Rattle.std.specs.declared.option.Option.the-variants.{Some}
 use Rattle.std.proofs.shelf.Lists.{length-append, length-map}
@@ -20,7 +19,7 @@ use Rattle.chains.specs.Tables.{Kept, held}
 use Rattle.chains.specs.Walk.{slot-at, walk, chain, holds, last-or}
 use Rattle.chains.proofs.Linked.{note-at, linked-walk, walk-linked}
 use Rattle.chains.proofs.Updated.{gathered-same, gathered-lengths, gathered-bounds}
-use Rattle.chains.proofs.Threads.{Thread, Threads}
+use Rattle.chains.proofs.Threads.{Threads}
 
 module _ (slots : List Slot) (heads tails : List ℕ) (cap : ℕ) where
   pub threads-of : Kept slots heads tails cap → Threads slots heads tails cap (chain slots heads cap) (held slots heads cap)

@@ -1,22 +1,20 @@
 -- The chains of all stores at once, and what each step does to them. Assumes nothing.
 use mathlib.Core.Path.{_≡_, refl, sym, ap, subst, _∙_}
-use mathlib.Core.Bool.{Bool, true, false, cond, _&&_}
+use mathlib.Core.Bool.{Bool, true, false, cond}
 use mathlib.Core.List.{List, [], _∷_, _++_, map}
 use mathlib.Core.Logic.{_≢_, ⊎-elim}
-use Prim.Native.Nat.{ℕ, suc, _+_, _≤_, _<_}
+use Prim.Native.Nat.{ℕ, _≤_, _<_}
 use native.Mathlib.Omega.{arith}
-use lib.Dec.{eqb, ltb}
+use lib.Dec.{ltb}
 use lib.ListN.{length, getD, set}
-use Rattle.std.specs.shelf.Lists.{All}
 use Rattle.std.specs.shelf.Lawful.{all-pass}
 use Rattle.std.proofs.shelf.Lists.{getD-set-same, getD-set-other, set-getD, length-set, map-append}
-use Rattle.std.proofs.shelf.Tests.{ltb-true, ltb-false, lt-ltb, le-ltb, cases-eq, eqb-true, eq-eqb, and-parts, and-from, cond-true, cond-false, cond-both}
+use Rattle.std.proofs.shelf.Tests.{lt-ltb, le-ltb, cases-eq, eqb-true, eq-eqb, and-parts, and-from, cond-true, cond-false}
 use Rattle.line.specs.declared.Note.{Note}
 use Rattle.chains.specs.declared.Slot.{Slot}
-use Rattle.chains.specs.Gathered.{gathered}
-use Rattle.chains.specs.Walk.{blank, slot, slot-at, walk, chain, holds, last-or, linked-to}
-use Rattle.chains.proofs.Linked.{Linked, Free-of, note-at, linked-walk, walk-linked, linked-set, once, places-below, elsewhere, holds-set, notes-set, last-rest, last-push, all-last, pass-last, holds-append, holds-linked-to, notes-linked-to, extend}
-use Rattle.chains.proofs.Updated.{upd, upd-same, upd-other, getD-set-is, gathered-same, gathered-upd, gathered-bounds}
+use Rattle.chains.specs.Walk.{blank, slot, slot-at, chain, holds, last-or, linked-to}
+use Rattle.chains.proofs.Linked.{Linked, Free-of, note-at, linked-set, once, places-below, elsewhere, holds-set, notes-set, last-rest, last-push, all-last, pass-last, holds-append, holds-linked-to, notes-linked-to, extend}
+use Rattle.chains.proofs.Updated.{upd, upd-same, upd-other}
 
 -- from its first place h to its last place t, chain s goes over the places and holds the notes
 pub record Thread (slots : List Slot) (cap h t s : ℕ) (places : List ℕ) (notes : List Note) : Type 0 where

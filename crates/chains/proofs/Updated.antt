@@ -1,16 +1,14 @@
 -- A list for each number, of which one is changed, and all of them joined. Assumes nothing.
-use mathlib.Core.Path.{_≡_, refl, sym, ap, subst, _∙_}
+use mathlib.Core.Path.{_≡_, refl, sym, ap, _∙_}
 use mathlib.Core.Bool.{cond}
-use mathlib.Core.List.{List, [], _∷_, _++_}
+use mathlib.Core.List.{List, [], _++_}
 use mathlib.Core.Logic.{_≢_, ⊎-elim}
 use Prim.Native.Nat.{ℕ, zero, suc, _+_, _≤_, _<_}
 use native.Mathlib.Omega.{arith}
 use lib.Dec.{eqb}
-use lib.ListN.{length, getD, set}
-use Rattle.std.specs.shelf.Lists.{All, Has}
-use Rattle.std.proofs.shelf.Lists.{length-append, getD-set-same, getD-set-other, getD-append-left, getD-append-right}
-use Rattle.std.proofs.shelf.Elements.{all-append}
-use Rattle.std.proofs.shelf.Tests.{cases-eq, cases-lt, eq-eqb, ne-eqb, cond-true, cond-false}
+use lib.ListN.{length}
+use Rattle.std.proofs.shelf.Lists.{length-append}
+use Rattle.std.proofs.shelf.Tests.{cases-eq, eq-eqb, ne-eqb, cond-true, cond-false}
 use Rattle.chains.specs.Gathered.{gathered}
 
 -- f, but v at t
@@ -22,14 +20,6 @@ upd-same f t v = cond-true (eqb t t) v (f t) (eq-eqb t t refl)
 
 pub upd-other : {X : Type 0} (f : ℕ → X) (t : ℕ) (v : X) (s : ℕ) → s ≢ t → upd f t v s ≡ f s
 upd-other f t v s ne = cond-false (eqb s t) v (f s) (ne-eqb s t ne)
-
--- to show something of a table of which one place is written
-pub getD-set-is : (xs : List ℕ) (t v s : ℕ) → t < length xs → getD (set xs t v) s 0 ≡ upd (λ s. getD xs s 0) t v s
-getD-set-is xs t v s h =
-    ⊎-elim
-    (λ e. ap (λ r. getD (set xs t v) r 0) e ∙ getD-set-same xs t v 0 h ∙ sym (upd-same (λ s. getD xs s 0) t v) ∙ ap (upd (λ s. getD xs s 0) t v) (sym e))
-    (λ ne. getD-set-other xs t s v 0 ne ∙ sym (upd-other (λ s. getD xs s 0) t v s ne))
-    (cases-eq s t)
 
 -- ---- all of them joined
 

@@ -1,36 +1,31 @@
 -- The notes of all stores as the notes that wait on a line. Assumes nothing.
 use mathlib.Core.Path.{_≡_, refl, sym, ap, subst, _∙_}
-use mathlib.Core.Bool.{Bool, true}
+use mathlib.Core.Bool.{true}
 use mathlib.Core.List.{List, [], _∷_, _++_, map, append-assoc, append-nil}
 use mathlib.Core.Logic.{_≢_, ⊎-elim}
-use Prim.Native.Nat.{ℕ, zero, suc, _+_, _≤_, _<_}
+use Prim.Native.Nat.{ℕ, zero, suc, _≤_, _<_}
 use native.Mathlib.Omega.{arith}
 use denote.Ref.{now}
 use lib.ListN.{length, drop}
-use Rattle.std.specs.declared.option.Option.{Option}
-use Rattle.std.specs.declared.option.Option.the-variants.{None, Some}
-use Rattle.std.specs.declared.result.Result.{Result}
-use Rattle.std.specs.declared.result.Result.the-variants.{Ok, Err}
+use Rattle.std.specs.declared.option.Option.the-variants.{Some}
 use Rattle.std.specs.shelf.Lists.{All, Has}
 use Rattle.std.specs.shelf.Lawful.{all-pass}
 use Rattle.std.specs.shelf.Sorted.{Shuffled}
 use Rattle.std.proofs.shelf.Elements.{all-append, all-weaker}
 use Rattle.std.proofs.shelf.Sorted.{shuffled-refl, shuffled-cons, shuffled-swap, shuffled-trans, has-shuffled}
-use Rattle.std.proofs.shelf.Tests.{cases-eq, cases-lt, eqb-true, and-parts}
+use Rattle.std.proofs.shelf.Tests.{cases-eq, eqb-true, and-parts}
 use Rattle.line.specs.declared.Note.{Note}
 use Rattle.line.specs.Law.{Lawful, Choice}
-use Rattle.line.specs.Calls.{Put, Taken}
 use Rattle.chains.specs.declared.End.{End}
 use Rattle.chains.specs.declared.End.the-variants.{Front, Back}
 use Rattle.chains.specs.declared.Pool.{Pool}
 use Rattle.chains.specs.declared.Slot.{Slot}
 use Rattle.chains.specs.Gathered.{gathered}
 use Rattle.chains.specs.Stores.{Sound, by-store, all-notes, capacity-of, front, Elsewhere, Removed}
-use Rattle.chains.specs.Tables.{held, joined}
+use Rattle.chains.specs.Tables.{joined}
 use Rattle.chains.specs.Walk.{holds, chain}
 use Rattle.chains.proofs.Linked.{note-at}
 use Rattle.chains.proofs.Puts.{free-count-of, store-within, has-store}
-use Rattle.chains.proofs.Tables.{notes-past}
 use Rattle.chains.proofs.Updated.{upd, upd-same, upd-other, gathered-same, gathered-none}
 
 -- ---- a note more

@@ -2,3 +2,4 @@ pub mod Walk
 pub mod Gathered
 pub mod Tables
 pub mod Stores
+pub mod Example

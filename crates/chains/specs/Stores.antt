@@ -23,6 +23,7 @@ use Rattle.chains.specs.Walk.{chain, holds, last-or}
 abbrev pub notes-in : List Slot → List ℕ → ℕ → ℕ → List Note
 notes-in slots heads capacity s = cond (ltb s 64) (held slots heads capacity s) []
 
+-- the notes of store s in a pool, first to last
 abbrev pub by-store : Pool → ℕ → List Note
 by-store pool = notes-in (now (pool .slots)) (pool .heads) (pool .capacity)
 
@@ -30,6 +31,7 @@ by-store pool = notes-in (now (pool .slots)) (pool .heads) (pool .capacity)
 abbrev pub places-of : Pool → ℕ → List ℕ
 places-of pool = chain (now (pool .slots)) (pool .heads) (pool .capacity)
 
+-- how many notes a pool has places for
 abbrev pub capacity-of : Pool → ℕ
 capacity-of pool = pool .capacity
 
@@ -46,11 +48,13 @@ abbrev pub Chained : Pool → Type 0
 Chained pool =
     (s : ℕ) → s < 65 → (all-pass (holds (now (pool .slots)) s) (places-of pool s) ≡ true) × (last-or (getD (pool .tails) s 0) (places-of pool s) ≡ getD (pool .tails) s 0)
 
+-- what a pool keeps at all times
 pub record Sound (pool : Pool) : Type 0 where
   pub sized : Sized pool
   pub counted : Counted pool
   pub chained : Chained pool
 
+-- the same from its parts
 abbrev pub sound-of : {pool : Pool} → Sized pool → Counted pool → Chained pool → Sound pool
 sound-of sized counted chained = record { sized = sized; counted = counted; chained = chained }
 

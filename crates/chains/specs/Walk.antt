@@ -15,6 +15,7 @@ blank = record { note = record { sender = 0; addressee = 0; store = 0; kind = 0 
 abbrev pub no-note : Note
 no-note = record { sender = 0; addressee = 0; store = 64; kind = 0 }
 
+-- the slot at place p
 abbrev pub slot-at : List Slot → ℕ → Slot
 slot-at slots p = getD slots p blank
 
@@ -36,6 +37,7 @@ abbrev pub last-or : ℕ → List ℕ → ℕ
 last-or d [] = d
 last-or d (p ∷ ps) = last-or p ps
 
+-- a slot with its note and link
 abbrev pub slot : Note → ℕ → Slot
 slot note link = record { note = note; link = link }
 

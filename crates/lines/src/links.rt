@@ -1,8 +1,7 @@
 //! The steps on the tables of the chains: a place leaves a chain at its front, or joins one at either end.
 ghost use mathlib.Core.Path.{_≡_};
 ghost use mathlib.Core.Bool.{cond};
-ghost use mathlib.Core.List.{[], _∷_, _++_};
-ghost use Prim.Native.Nat.{_<_, _≤_};
+ghost use Prim.Native.Nat.{_<_};
 ghost use lib.Dec.{ltb};
 ghost use lib.ListN.{length, getD, set};
 ghost use Rattle.chains.specs.Tables.{Kept, Movable, Moved, held};

@@ -28,7 +28,7 @@ enum Step {
 }
 
 /// What a line answers to a step.
-#[derive(Clone, Copy, PartialEq, Eq)]
+#[derive(Clone, Copy, PartialEq, Eq, Debug)]
 enum Answer {
     Kept,
     Refused(u32, u32),
@@ -154,11 +154,13 @@ mod tests {
     fn queue_hands_the_oldest() -> Result<(), Fail> {
         let mut slots = [BLANK; 4];
         let mut queue = Queue::new(&mut slots, 4);
-        let [a, b, c, d] = handed(&mut queue);
-        check(a == Answer::Handed(1))?;
-        check(b == Answer::Handed(2))?;
-        check(c == Answer::Handed(3))?;
-        check(d == Answer::Nothing)?;
+        let three = [
+            Answer::Handed(1),
+            Answer::Handed(2),
+            Answer::Handed(3),
+            Answer::Nothing,
+        ];
+        check_eq(handed(&mut queue), three)?;
         check_eq(queue.free(), 3)
     }
 
@@ -166,11 +168,13 @@ mod tests {
     fn pigeonholes_hand_the_newest() -> Result<(), Fail> {
         let mut slots = [BLANK; 4];
         let mut holes = Pigeonholes::new(&mut slots, 4);
-        let [a, b, c, d] = handed(&mut holes);
-        check(a == Answer::Handed(3))?;
-        check(b == Answer::Handed(2))?;
-        check(c == Answer::Handed(1))?;
-        check(d == Answer::Nothing)?;
+        let three = [
+            Answer::Handed(3),
+            Answer::Handed(2),
+            Answer::Handed(1),
+            Answer::Nothing,
+        ];
+        check_eq(handed(&mut holes), three)?;
         check_eq(holes.free(), 3)
     }
 

@@ -1,4 +1,4 @@
-use mathlib.Core.Path.{_≡_, refl, subst, sym}
+use mathlib.Core.Path.{_≡_, refl, subst}
 use native.Mathlib.Omega.{arith}
 use Rattle.chains.proofs.Fresh.{Fresh, fresh-none, fresh-more, fresh-kept, fresh-spare, fresh-empty}
 use Rattle.lines.proofs.pool.new.Needs as need
