@@ -2,13 +2,14 @@ ghost use mathlib.Core.Path.{_≡_};
 ghost use mathlib.Core.List.{List};
 ghost use Prim.Native.Nat.{ℕ, _<_};
 ghost use lib.ListN.{length};
-ghost use Rattle.std.specs.Orderings.{When};
+ghost use Rattle.std.specs.Orderings.{Decides};
 ghost use Rattle.std.specs.declared.option.Option.the-variants.{None, Some};
 ghost use Rattle.std.specs.shelf.Lists.{All};
+ghost use Rattle.text.specs.Examples.{Examples};
 ghost use Rattle.text.specs.Numbers.{Digit, Form, value, Numeral};
 
 fn all_digits(bytes: &[u8]) -> bool
-    ensures { λ r. ⌜ When r (All Digit (now (bytes .entry))) (All Digit (now (bytes .entry)) → ⊥) ⌝ }
+    ensures { λ r. ⌜ Decides r (All Digit (now (bytes .entry))) ⌝ }
 {
     for b in bytes {
         if *b < b'0' || *b > b'9' {
@@ -20,7 +21,7 @@ fn all_digits(bytes: &[u8]) -> bool
 
 // Whether the bytes have the form of a number, whatever its value.
 fn has_form(bytes: &[u8]) -> bool
-    ensures { λ r. ⌜ When r (Form (now (bytes .entry))) (Form (now (bytes .entry)) → ⊥) ⌝ }
+    ensures { λ r. ⌜ Decides r (Form (now (bytes .entry))) ⌝ }
 {
     if bytes.is_empty() || (bytes[0] == b'0' && bytes.len() > 1) {
         return false;
@@ -44,5 +45,14 @@ fn value_of(digits: &[u8]) -> Option<u32>
 pub fn number(bytes: &[u8]) -> Option<u32>
     ensures { λ r. ⌜ elim r [ Some v ↦ Numeral (now (bytes .entry)) v | None ↦ ((v : ℕ) → Numeral (now (bytes .entry)) v → ⊥) ] ⌝ }
 {
-    if has_form(bytes) { value_of(bytes) } else { None }
+    if has_form(bytes) {
+        value_of(bytes)
+    } else {
+        None
+    }
 }
+
+/// Numbers and a line, worked out.
+pub fn worked_out()
+    ensures { λ _. ⌜ Examples ⌝ }
+{}

@@ -7,6 +7,8 @@ mod decimal;
 mod reader;
 
 pub use decimal::number;
+pub use decimal::worked_out;
+pub use reader::numbers;
 
 /// A part of a text: its bytes, the place in the text at which they begin, from 0, and the number of its line, from 1.
 #[derive(Clone, Copy)]

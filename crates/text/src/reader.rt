@@ -1,11 +1,15 @@
 ghost use mathlib.Core.Path.{_≡_};
-ghost use Prim.Native.Nat.{_<_};
+ghost use mathlib.Core.List.{List, []};
+ghost use Prim.Native.Nat.{ℕ, _<_};
 ghost use lib.ListN.{length, getD, take};
+ghost use Rattle.std.specs.Orderings.{Decides};
 ghost use Rattle.std.specs.declared.option.Option.the-variants.{None, Some};
 ghost use Rattle.text.specs.Parts.{Free, left, Next-line, Next-field};
+ghost use Rattle.text.specs.Rows.{Values, Only-values};
 use super::Fields;
 use super::Lines;
 use super::Part;
+use super::number;
 
 // Where the first such byte stands.
 fn find(bytes: &[u8], byte: u8) -> Option<usize>
@@ -46,6 +50,13 @@ impl<'a> Lines<'a> {
         self.number += 1;
         Some(line)
     }
+
+    /// Whether every byte of the text belongs to a line that was handed out.
+    pub fn is_at_end(&self) -> bool
+        ensures { λ r. ⌜ Decides r (left (now (self .entry)) ≡ []) ⌝ }
+    {
+        self.pos == self.text.len()
+    }
 }
 
 impl<'a> Fields<'a> {
@@ -79,5 +90,21 @@ impl<'a> Fields<'a> {
                 Some(part)
             }
         }
+    }
+}
+
+/// The numbers of a line that has just `N` fields, each a number; none where it has not.
+pub fn numbers<const N: usize>(line: Part<'_>) -> Option<[u32; N]>
+    ensures { λ r. ⌜ elim r [ Some vs ↦ Only-values vs (now (line .entry .bytes)) | None ↦ ((vs : List ℕ) → length vs ≡ N → Values vs (now (line .entry .bytes)) → ⊥) ] ⌝ }
+{
+    let mut fields = Fields::new(line);
+    let mut values = [0; N];
+    for i in 0..N {
+        let field = fields.next_field()?;
+        values[i] = number(field.bytes)?;
+    }
+    match fields.next_field() {
+        Some(_) => None,
+        None => Some(values),
     }
 }

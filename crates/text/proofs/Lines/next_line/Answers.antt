@@ -26,8 +26,8 @@ returns c =
       bytes = sym same ∙ parted-at rest end 10 (told .0) (told .1) ∙ (λ i. take (sym front i) rest ++ 10 ∷ (ap (drop (end + 1)) same ∙ drop-drop (end + 1) pos text) i);
       first = subst (λ n. Free 10 (take n rest)) (sym front) (told .2);
       text = refl;
-      place = refl;
-      number = refl;
+      place = omega arith;
+      number = omega arith;
       passed = let long = length-take-le (end - 0) rest (omega (arith, told .0)) in omega (arith, long);
-      counted = refl;
+      counted = omega arith;
     }
