@@ -95,7 +95,7 @@ impl<'a> Fields<'a> {
 
 /// The numbers of a line that has just `N` fields, each a number; none where it has not.
 pub fn numbers<const N: usize>(line: Part<'_>) -> Option<[u32; N]>
-    ensures { λ r. ⌜ elim r [ Some vs ↦ Only-values vs (now (line .entry .bytes)) | None ↦ ((vs : List ℕ) → length vs ≡ N → Values vs (now (line .entry .bytes)) → ⊥) ] ⌝ }
+    ensures { λ r. ⌜ elim r [ Some vs ↦ (length vs ≡ N) × Only-values vs (now (line .entry .bytes)) | None ↦ ((vs : List ℕ) → length vs ≡ N → Values vs (now (line .entry .bytes)) → ⊥) ] ⌝ }
 {
     let mut fields = Fields::new(line);
     let mut values = [0; N];

@@ -54,4 +54,4 @@ returns-in-None g c =
     let long : length vs ≡ g .N = c .loop-i .inv .0 ∙ length-replicate {A = ℕ} (g .N) 0 in
     let written = no-field _ _ _ _ (c .in-None .ensures tt) (c .loop-i .inv .1) in
     let here : Values vs (c .args .line .bytes .now) = subst (λ l. Values l (c .args .line .bytes .now)) (filled vs (c .loop-i .i) (g .N) long (c .loop-i-test .left)) written in
-    record { written = here; only = λ ws w. values-one-way w here }
+    (long, record { written = here; only = λ ws w. values-one-way w here })
