@@ -12,3 +12,8 @@ three (a ∷ []) e = absurd (omega arith)
 three (a ∷ b ∷ []) e = absurd (omega arith)
 three (a ∷ b ∷ c ∷ []) e = refl
 three (a ∷ b ∷ c ∷ d ∷ xs) e = absurd (omega arith)
+
+-- and one of four
+pub four : (xs : List ℕ) → length xs ≡ 4 → xs ≡ getD xs 0 0 ∷ getD xs 1 0 ∷ getD xs 2 0 ∷ getD xs 3 0 ∷ []
+four [] e = absurd (omega arith)
+four (a ∷ xs) e = ap (λ l. a ∷ l) (three xs (omega arith))

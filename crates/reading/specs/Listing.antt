@@ -2,14 +2,11 @@
 use mathlib.Core.Path.{_≡_}
 use mathlib.Core.List.{List, [], _∷_, _++_, map}
 use Prim.Native.Nat.{ℕ, _+_, _≤_, _<_}
-use lib.ListN.{length}
+use lib.ListN.{length, getD}
 use Rattle.std.specs.shelf.Lists.{All}
 use Rattle.text.specs.Rows.{Begins}
 use Rattle.reading.specs.declared.Sizes.{Sizes}
-
-pub record Parcel : Type 0 where
-  pub store : ℕ
-  pub edition : ℕ
+use Rattle.reading.specs.declared.rows.Parcel.{Parcel}
 
 -- an entry: the parcel in whose row it stands, the other parcel, and the fields of its key
 pub record Entry : Type 0 where
@@ -39,6 +36,10 @@ parcel-rows i (p ∷ ps) = parcel-row i p ∷ parcel-rows (i + 1) ps
 -- and a line for each entry
 abbrev pub entry-row : Entry → List ℕ
 entry-row x = x .row ∷ x .other ∷ x .fields
+
+-- the key of an entry; a second field that is not there counts as 0
+abbrev pub key-of : {K : Type 0} → (ℕ → ℕ → K) → Entry → K
+key-of made x = made (getD (x .fields) 0 0) (getD (x .fields) 1 0)
 
 -- all lines that are there, parcels numbered from 0
 abbrev pub rows : Listing → List (List ℕ)

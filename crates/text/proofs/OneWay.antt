@@ -80,3 +80,9 @@ begins-strip {c} (line l r v e b) (line {rows = longer} m s w d k) h =
     let rest = begins-strip b (subst (λ x. Begins longer x c) (sym (same .1)) k) (omega arith) in
     let tail = rest .1 in
     (rest .0, (cc), rest .2)
+
+-- one line at the front is one row only, and ends in one place
+pub one-row : {vs ws bs a c : List ℕ} → Begins (vs ∷ []) bs a → Begins (ws ∷ []) bs c → (ws ≡ vs) × (a ≡ c)
+one-row (line l r v e (none z)) (line m s w d (none y)) =
+    let same = one-cut 10 l r m s (line-ends v) (line-ends w) (sym e ∙ d) in
+    (values-one-way w (subst (Values _) (same .0) v), sym z ∙ same .1 ∙ y)
