@@ -1,2 +1,4 @@
 pub mod Listing
 pub mod Entries
+pub mod Passing
+pub mod Outcome

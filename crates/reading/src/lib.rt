@@ -1,4 +1,6 @@
 //! A sheet's text is read into tables that the caller lends. docs/TEXT.md has the form of the text.
+mod checking;
+mod filling;
 mod rows;
 
 /// How many parcels, entries and stores a sheet has.

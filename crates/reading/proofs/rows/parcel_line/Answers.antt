@@ -20,9 +20,8 @@ pub returns : need.returns
 returns c =
     let told = c .in-Continue-values .ensures tt in
     let values = c .in-Continue-values .values in
-    let named : getD values 0 0 ≡ c .args .number = omega arith in
-    (
+    let named : getD values 0 0 ≡ c .args .number = omega arith in (
       omega arith,
       subst (λ i. Begins ((i ∷ getD values 1 0 ∷ getD values 2 0 ∷ []) ∷ []) (left (c .args .lines .now)) (left (c .next-numbers .last .lines))) named
-      (subst (λ vs. Begins (vs ∷ []) (left (c .args .lines .now)) (left (c .next-numbers .last .lines))) (three values (told .1)) (told .0)),
+          (subst (λ vs. Begins (vs ∷ []) (left (c .args .lines .now)) (left (c .next-numbers .last .lines))) (three values (told .1)) (told .0)),
     )
