@@ -17,7 +17,7 @@ use text::Lines;
 pub fn fill_parcels(lines: &mut Lines<'_>, parcels: u32, stores: &mut [u32], editions: &mut [u16])
     requires room_for_stores { ⌜ parcels ≤ length (now stores) ⌝ }
     requires room_for_editions { ⌜ parcels ≤ length (now editions) ⌝ }
-    requires passed { ⌜ ((ps : List Parcel) (rest : List ℕ) × (length ps ≡ parcels) × Parcels ps (left (now lines)) rest) ⌝ }
+    requires passed { ⌜ ((ps : List Parcel) × (rest : List ℕ) × (length ps ≡ parcels) × Parcels ps (left (now lines)) rest) ⌝ }
     ensures { λ _. ⌜ ((ps : List Parcel) × (length ps ≡ parcels) × Parcels ps (left (now (lines .entry))) (left (now (lines .exit))) × (now (stores .exit) ≡ laid (map (λ p. p .store) ps) (now (stores .entry))) × (now (editions .exit) ≡ laid (map (λ p. p .edition) ps) (now (editions .entry)))) ⌝ }
 {
     for i in 0..parcels {
