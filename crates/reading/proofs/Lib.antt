@@ -1,3 +1,4 @@
 pub mod Lists
 pub mod Passed
 pub mod Next
+pub mod Marks

@@ -28,3 +28,41 @@ pub fn fill_parcels(lines: &mut Lines<'_>, parcels: u32, stores: &mut [u32], edi
         editions[i as usize] = parcel.edition;
     }
 }
+
+// Writes the value into the places from `from` up to, not including, `to`.
+fn mark(starts: &mut [u32], from: u32, to: u32, value: u32)
+    requires in_turn { ⌜ from ≤ to ⌝ }
+    requires room { ⌜ to ≤ length (now starts) ⌝ }
+    ensures before { λ _. ⌜ ((k : ℕ) → k < from → getD (now (starts .exit)) k 0 ≡ getD (now (starts .entry)) k 0) ⌝ }
+    ensures within { λ _. ⌜ ((k : ℕ) → from ≤ k → k < to → getD (now (starts .exit)) k 0 ≡ value) ⌝ }
+    ensures after { λ _. ⌜ ((k : ℕ) → to ≤ k → getD (now (starts .exit)) k 0 ≡ getD (now (starts .entry)) k 0) ⌝ }
+{
+    for row in from..to {
+        starts[row as usize] = value;
+    }
+}
+
+// Writes the starts of all rows, and the entries' other parcels and keys; their lines were passed before.
+pub fn fill_entries<K: Ranking>(lines: &mut Lines<'_>, sizes: Sizes, starts: &mut [u32], others: &mut [u32], keys: &mut [K])
+    requires few { ⌜ sizes .parcels ≤ 1024 ⌝ }
+    requires room_for_starts { ⌜ sizes .parcels + 1 ≤ length (now starts) ⌝ }
+    requires room_for_others { ⌜ sizes .entries ≤ length (now others) ⌝ }
+    requires room_for_keys { ⌜ sizes .entries ≤ length (now keys) ⌝ }
+    requires passed { ⌜ ((xs : List Entry) × (rest : List ℕ) × (length xs ≡ sizes .entries) × Entries (K·Ranking .fields) (sizes .parcels) xs (left (now lines)) rest) ⌝ }
+    ensures { λ _. ⌜ ((xs : List Entry) × (length xs ≡ sizes .entries) × Entries (K·Ranking .fields) (sizes .parcels) xs (left (now (lines .entry))) (left (now (lines .exit))) × (now (starts .exit) ≡ laid (starts-of (sizes .parcels) xs) (now (starts .entry))) × (now (others .exit) ≡ laid (map (λ x. x .other) xs) (now (others .entry))) × (now (keys .exit) ≡ laid (map (key-of (K·Ranking .made)) xs) (now (keys .entry)))) ⌝ }
+{
+    let mut low = 0;
+    // the rows below this one have their start
+    let mut marked = 0;
+    for j in 0..sizes.entries {
+        let Some(entry) = entry_line::<K>(lines, sizes.parcels, low) else {
+            unreachable();
+        };
+        low = entry.row;
+        mark(starts, marked, low + 1, j);
+        marked = low + 1;
+        others[j as usize] = entry.other;
+        keys[j as usize] = entry.key;
+    }
+    mark(starts, marked, sizes.parcels + 1, sizes.entries);
+}
