@@ -72,6 +72,6 @@ marks-all {old} {starts} {xs} parcels m e h =
     let long : length vs ≡ parcels + 1 = length-map-counting f 0 (parcels + 1) in
     let whole : length (laid vs old) ≡ length vs + (length old - length vs) = length-append vs _ ∙ ap (λ n. length vs + n) (length-drop (length vs) old) in
     ext-getD 0 starts (laid vs old) (omega arith) (λ k l. ⊎-elim
-      (λ b. m .counted k b ∙ sym (getD-map-counting f 0 (parcels + 1) k k 0 b (omega arith)) ∙ sym (getD-append-left vs (drop (length vs) old) 0 k (omega arith)))
-      (λ a. m .kept k a ∙ ap (λ i. getD old i 0) (let i : k ≡ length vs + (k - length vs) = omega arith in i) ∙ sym (getD-drop (length vs) old (k - length vs) 0) ∙ sym (getD-append-right vs (drop (length vs) old) (length vs) k 0 refl (omega arith)))
-      (cases-lt k (parcels + 1)))
+    (λ b. m .counted k b ∙ sym (getD-map-counting f 0 (parcels + 1) k k 0 b (omega arith)) ∙ sym (getD-append-left vs (drop (length vs) old) 0 k (omega arith)))
+    (λ a. m .kept k a ∙ ap (λ i. getD old i 0) (let i : k ≡ length vs + (k - length vs) = omega arith in i) ∙ sym (getD-drop (length vs) old (k - length vs) 0) ∙ sym (getD-append-right vs (drop (length vs) old) (length vs) k 0 refl (omega arith)))
+    (cases-lt k (parcels + 1)))

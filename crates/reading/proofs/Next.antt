@@ -20,9 +20,9 @@ same-end {rows} {more} {bs} {a} {c} x y e =
     let long = ap length (rest .1) ∙ length-append rows (rest .0) in
     no-more (rest .0) (rest .1) (rest .2) (omega arith)
   where
-  no-more : (t : List (List ℕ)) → more ≡ rows ++ t → Begins t a c → length t ≡ 0 → (more ≡ rows) × (a ≡ c)
-  no-more [] e (none z) l = (e ∙ append-nil rows, z)
-  no-more (r ∷ t) e b l = absurd (omega arith)
+    no-more : (t : List (List ℕ)) → more ≡ rows ++ t → Begins t a c → length t ≡ 0 → (more ≡ rows) × (a ≡ c)
+    no-more [] e (none z) l = (e ∙ append-nil rows, z)
+    no-more (r ∷ t) e b l = absurd (omega arith)
 
 -- lines that stand at the front part where the first of them end
 pub begins-part : (rows more : List (List ℕ)) {a c : List ℕ} → Begins (rows ++ more) a c → (b : List ℕ) × Begins rows a b × Begins more b c
@@ -52,13 +52,12 @@ next-parcel {qs} {was} {a} {c} ps more h fit b less =
     let p = cut .1 in
     let us = cut .2 in
     let rows : parcel-rows 0 ps ++ more ≡ parcel-rows 0 ts ++ (parcel-row (0 + length ts) p ∷ (parcel-rows (0 + length ts + 1) us ++ more)) =
-        ap (λ l. parcel-rows 0 l ++ more) (cut .3) ∙ ap (λ l. l ++ more) (parcel-rows-append 0 ts (p ∷ us)) ∙ append-assoc (parcel-rows 0 ts) (parcel-row (0 + length ts) p ∷ parcel-rows (0 + length ts + 1) us) more in
+    ap (λ l. parcel-rows 0 l ++ more) (cut .3) ∙ ap (λ l. l ++ more) (parcel-rows-append 0 ts (p ∷ us)) ∙ append-assoc (parcel-rows 0 ts) (parcel-row (0 + length ts) p ∷ parcel-rows (0 + length ts + 1) us) more in
     let split = begins-part (parcel-rows 0 ts) _ (subst (λ l. Begins l was c) rows b) in
     let long : length (parcel-rows 0 qs) ≡ length (parcel-rows 0 ts) = omega (arith, length-parcel-rows 0 qs, length-parcel-rows 0 ts, cut .4) in
     let here = same-end (h .written) (split .1) long .1 in
     let first = begins-part (parcel-row (0 + length ts) p ∷ []) _ (split .2) in
-    let number : 0 + length ts ≡ length qs = omega (arith, cut .4) in
-    (
+    let number : 0 + length ts ≡ length qs = omega (arith, cut .4) in (
       p,
       first .0,
       all-mid Fit-parcel ts p us (subst (All Fit-parcel) (cut .3) fit),
@@ -88,8 +87,7 @@ next-entry {count} {parcels} {xs} {was} {a} {c} ys h k less =
     let first = begins-part (entry-row x ∷ []) _ (split .2) in
     let lines : map row-of ts ≡ map row-of xs = sym (rows-shown ts) ∙ ap (map (λ l. getD l 0 0)) (same .0) ∙ rows-shown xs in
     let order : map row-of ys ≡ map row-of (xs ++ x ∷ []) ++ map row-of us =
-        ap (map row-of) (cut .3) ∙ map-append row-of ts (x ∷ us) ∙ ap (λ l. l ++ (x .row ∷ map row-of us)) lines ∙ sym (append-assoc (map row-of xs) (x .row ∷ []) (map row-of us)) ∙ ap (λ l. l ++ map row-of us) (sym (map-push row-of xs x)) in
-    (
+    ap (map row-of) (cut .3) ∙ map-append row-of ts (x ∷ us) ∙ ap (λ l. l ++ (x .row ∷ map row-of us)) lines ∙ sym (append-assoc (map row-of xs) (x .row ∷ []) (map row-of us)) ∙ ap (λ l. l ++ map row-of us) (sym (map-push row-of xs x)) in (
       x,
       first .0,
       all-mid (Fit-entry count parcels) ts x us (subst (All (Fit-entry count parcels)) (cut .3) (k .fit)),

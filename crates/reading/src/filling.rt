@@ -43,7 +43,13 @@ fn mark(starts: &mut [u32], from: u32, to: u32, value: u32)
 }
 
 // Writes the starts of all rows, and the entries' other parcels and keys; their lines were passed before.
-pub fn fill_entries<K: Ranking>(lines: &mut Lines<'_>, sizes: Sizes, starts: &mut [u32], others: &mut [u32], keys: &mut [K])
+pub fn fill_entries<K: Ranking>(
+    lines: &mut Lines<'_>,
+    sizes: Sizes,
+    starts: &mut [u32],
+    others: &mut [u32],
+    keys: &mut [K],
+)
     requires few { ⌜ sizes .parcels ≤ 1024 ⌝ }
     requires room_for_starts { ⌜ sizes .parcels + 1 ≤ length (now starts) ⌝ }
     requires room_for_others { ⌜ sizes .entries ≤ length (now others) ⌝ }

@@ -30,8 +30,7 @@ pub loop-i-again : need.loop-i-again
 loop-i-again c =
     let so = c .loop-i .inv in
     let told = c .in-Some .ensures tt in
-    let p = c .in-Some .parcel in
-    (
+    let p = c .in-Some .parcel in (
       so .0 ++ p ∷ [],
       length-push (so .0) p ∙ ap (λ n. n + 1) (so .1),
       parcels-push p (so .2) (so .1) (told .0) (told .1),
