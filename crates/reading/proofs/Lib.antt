@@ -2,3 +2,4 @@ pub mod Lists
 pub mod Passed
 pub mod Next
 pub mod Marks
+pub mod Wrong

@@ -41,13 +41,13 @@ all-mid : {X : Type 0} (P : X → Type 0) (ts : List X) (x : X) (us : List X) �
 all-mid P [] x us h = h .0
 all-mid P (t ∷ ts) x us h = all-mid P ts x us (h .1)
 
-length-parcel-rows : (i : ℕ) (ps : List Parcel) → length (parcel-rows i ps) ≡ length ps
+pub length-parcel-rows : (i : ℕ) (ps : List Parcel) → length (parcel-rows i ps) ≡ length ps
 length-parcel-rows i [] = refl
 length-parcel-rows i (p ∷ ps) = ap suc (length-parcel-rows (i + 1) ps)
 
-pub next-parcel : {qs : List Parcel} {was a c : List ℕ} (ps : List Parcel) (more : List (List ℕ)) → Parcels qs was a → All Fit-parcel ps → Begins (parcel-rows 0 ps ++ more) was c → length qs < length ps → (p : Parcel) × (after : List ℕ) × Fit-parcel p × Begins (parcel-row (length qs) p ∷ []) a after
-next-parcel {qs} {was} {a} {c} ps more h fit b less =
-    let cut = parted ps (length qs) less in
+pub next-parcel : {qs : List Parcel} {was a c : List ℕ} (ps : List Parcel) (more : List (List ℕ)) → Parcels qs was a → All Fit-parcel ps → Begins (parcel-rows 0 ps ++ more) was c → (k : ℕ) → length qs ≡ k → k < length ps → (p : Parcel) × (after : List ℕ) × Fit-parcel p × Begins (parcel-row k p ∷ []) a after
+next-parcel {qs} {was} {a} {c} ps more h fit b k so less =
+    let cut = parted ps k less in
     let ts = cut .0 in
     let p = cut .1 in
     let us = cut .2 in
@@ -57,7 +57,7 @@ next-parcel {qs} {was} {a} {c} ps more h fit b less =
     let long : length (parcel-rows 0 qs) ≡ length (parcel-rows 0 ts) = omega (arith, length-parcel-rows 0 qs, length-parcel-rows 0 ts, cut .4) in
     let here = same-end (h .written) (split .1) long .1 in
     let first = begins-part (parcel-row (0 + length ts) p ∷ []) _ (split .2) in
-    let number : 0 + length ts ≡ length qs = omega (arith, cut .4) in (
+    let number : 0 + length ts ≡ k = omega (arith, cut .4) in (
       p,
       first .0,
       all-mid Fit-parcel ts p us (subst (All Fit-parcel) (cut .3) fit),

@@ -7,7 +7,6 @@ use Rattle.std.proofs.shelf.Lists.{length-push}
 use Rattle.text.specs.Parts.{left}
 use Rattle.text.specs.Rows.{Begins, none}
 use Rattle.reading.specs.declared.rows.Parcel.{Parcel}
-use Rattle.reading.specs.Listing.{parcel-row}
 use Rattle.reading.specs.Outcome.{laid}
 use Rattle.reading.proofs.Lists.{laid-more}
 use Rattle.reading.proofs.Next.{next-parcel}
@@ -21,10 +20,9 @@ pub unreachable-requires : need.unreachable-requires
 unreachable-requires c κs =
     let so = c .loop-i .inv in
     let was = c .pre .passed in
-    let less : length (so .0) < length (was .0) = omega (arith, so .1, was .2) in
     let all = subst (λ rows. Begins rows (left (c .args .lines .now)) (was .1)) (sym (append-nil _)) (was .3 .written) in
-    let next = next-parcel (was .0) [] (so .2) (was .3 .fit) all less in
-    c .in-rest .ensures tt (next .0) (next .1) (next .2) (subst (λ k. Begins (parcel-row k (next .0) ∷ []) (left (c .loop-i .lines)) (next .1)) (so .1) (next .3))
+    let next = next-parcel (was .0) [] (so .2) (was .3 .fit) all (c .loop-i .i) (so .1) (omega (arith, was .2)) in
+    c .in-rest .ensures tt (next .0) (next .1) (next .2) (next .3)
 
 pub loop-i-again : need.loop-i-again
 loop-i-again c =
