@@ -3,3 +3,4 @@ pub mod Passed
 pub mod Next
 pub mod Marks
 pub mod Wrong
+pub mod Only

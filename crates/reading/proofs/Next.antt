@@ -64,7 +64,7 @@ next-parcel {qs} {was} {a} {c} ps more h fit b k so less =
       subst (λ i. Begins (parcel-row i p ∷ []) a (first .0)) number (subst (λ l. Begins (parcel-row (0 + length ts) p ∷ []) l (first .0)) (sym here) (first .1)),
     )
 
-falls-front : (ys zs : List ℕ) → Never-falls (ys ++ zs) → Never-falls ys
+pub falls-front : (ys zs : List ℕ) → Never-falls (ys ++ zs) → Never-falls ys
 falls-front [] zs h = tt
 falls-front (x ∷ []) zs h = tt
 falls-front (x ∷ y ∷ ys) zs h = (h .0, falls-front (y ∷ ys) zs (h .1))

@@ -17,7 +17,7 @@ use Rattle.reading.specs.Passing.{Parcels, No-parcel, Entries, No-entry}
 use Rattle.reading.proofs.Next.{same-end, begins-part, length-parcel-rows, next-parcel, next-entry}
 
 -- what is written of a listing after its first line
-after-first : {z : Sizes} {bs a c : List ℕ} (l : Listing) → Begins (sizes-row z ∷ []) bs a → Begins (rows l) bs c → Begins (parcel-rows 0 (l .parcels) ++ map entry-row (l .entries)) a c
+pub after-first : {z : Sizes} {bs a c : List ℕ} (l : Listing) → Begins (sizes-row z ∷ []) bs a → Begins (rows l) bs c → Begins (parcel-rows 0 (l .parcels) ++ map entry-row (l .entries)) a c
 after-first {c} l first b =
     let others = parcel-rows 0 (l .parcels) ++ map entry-row (l .entries) in
     let cut = begins-part (sizes-row (l .sizes) ∷ []) others b in
@@ -25,7 +25,7 @@ after-first {c} l first b =
 
 module _ {count : ℕ} {z : Sizes} {bs a : List ℕ} (first : Begins (sizes-row z ∷ []) bs a) where
   -- a listing with these parcels and entries, as far as they go
-  so-far : {b c : List ℕ} (ps : List Parcel) (xs : List Entry) → Parcels ps a b → Entries count (z .parcels) xs b c → length ps ≤ z .parcels → length xs ≤ z .entries → (0 < length xs → length ps ≡ z .parcels) → (k : ℕ) → 1 + length ps + length xs ≡ k → Right-lines count z k bs
+  pub so-far : {b c : List ℕ} (ps : List Parcel) (xs : List Entry) → Parcels ps a b → Entries count (z .parcels) xs b c → length ps ≤ z .parcels → length xs ≤ z .entries → (0 < length xs → length ps ≡ z .parcels) → (k : ℕ) → 1 + length ps + length xs ≡ k → Right-lines count z k bs
   so-far {c} ps xs p e hp he ho k so =
       record {
         lines = record { sizes = z; parcels = ps; entries = xs };
@@ -36,7 +36,7 @@ module _ {count : ℕ} {z : Sizes} {bs a : List ℕ} (first : Begins (sizes-row 
         written = begins-append first (begins-append (p .written) (e .written));
       }
 
-  nothing : {b : List ℕ} → Entries count (z .parcels) [] b b
+  pub nothing : {b : List ℕ} → Entries count (z .parcels) [] b b
   nothing = record { fit = tt; in-order = tt; written = none refl }
 
   -- no more parcels stand there where no line of a parcel comes next
@@ -58,7 +58,7 @@ module _ {count : ℕ} {z : Sizes} {bs a : List ℕ} (first : Begins (sizes-row 
 
   module _ {b : List ℕ} (ps : List Parcel) (passed : Parcels ps a b) (all : length ps ≡ z .parcels) where
     -- the entries of a listing stand where all parcels were passed
-    entries-there : (l : Listing) {rest : List ℕ} → Right count l → l .sizes ≡ z → Begins (rows l) bs rest → length (l .parcels) ≡ z .parcels → Entries count (z .parcels) (l .entries) b rest
+    pub entries-there : (l : Listing) {rest : List ℕ} → Right count l → l .sizes ≡ z → Begins (rows l) bs rest → length (l .parcels) ≡ z .parcels → Entries count (z .parcels) (l .entries) b rest
     entries-there l {rest} r e w h =
         let cut = begins-part (parcel-rows 0 (l .parcels)) (map entry-row (l .entries)) (after-first l first w) in
         let long : length (parcel-rows 0 ps) ≡ length (parcel-rows 0 (l .parcels)) = omega (arith, length-parcel-rows 0 ps, length-parcel-rows 0 (l .parcels)) in
