@@ -21,6 +21,9 @@ pub record Tables (K : Type 0) : Type 0 where
   pub stores : List ℕ
   pub editions : List ℕ
 
+abbrev pub tables : {K : Type 0} → List ℕ → List ℕ → List K → List ℕ → List ℕ → Tables K
+tables starts others keys stores editions = record { starts = starts; others = others; keys = keys; stores = stores; editions = editions }
+
 -- sizes that are within the limits
 pub record Within (z : Sizes) : Type 0 where
   pub parcels : z .parcels ≤ 1024

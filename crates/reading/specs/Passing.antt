@@ -5,6 +5,7 @@ use Prim.Native.Nat.{ℕ, _<_}
 use lib.ListN.{length}
 use Rattle.std.specs.shelf.Lists.{All}
 use Rattle.text.specs.Rows.{Begins}
+use Rattle.reading.specs.declared.Sizes.{Sizes}
 use Rattle.reading.specs.declared.rows.Parcel.{Parcel}
 use Rattle.reading.specs.Listing.{Entry, parcel-row, parcel-rows, entry-row, Fit-parcel, Fit-entry, Never-falls}
 
@@ -34,3 +35,13 @@ pub record No-entry (count parcels k : ℕ) (was : List ℕ) : Type 0 where
   pub entries : Entries count parcels passed was rest
   pub so-many : length passed ≡ k
   pub wrong : (x : Entry) (after : List ℕ) → Fit-entry count parcels x → Never-falls (map (λ y. y .row) (passed ++ x ∷ [])) → Begins (entry-row x ∷ []) rest after → ⊥
+
+-- all lines of a listing of these sizes after its first, and nothing more
+pub record All-passed (count : ℕ) (z : Sizes) (bs : List ℕ) : Type 0 where
+  pub passed-parcels : List Parcel
+  pub passed-entries : List Entry
+  pub between : List ℕ
+  pub parcels : Parcels passed-parcels bs between
+  pub entries : Entries count (z .parcels) passed-entries between []
+  pub all-parcels : length passed-parcels ≡ z .parcels
+  pub all-entries : length passed-entries ≡ z .entries

@@ -1,12 +1,13 @@
 ghost use mathlib.Core.Path.{_≡_};
-ghost use mathlib.Core.List.{List};
+ghost use mathlib.Core.List.{List, [], _∷_};
 ghost use Prim.Native.Nat.{ℕ, _+_, _<_, _≤_};
 ghost use lib.ListN.{length};
 ghost use Rattle.std.specs.declared.result.Result.the-variants.{Ok, Err};
 ghost use Rattle.text.specs.Parts.{left};
 ghost use Rattle.reading.specs.declared.rows.Parcel.{Parcel};
-ghost use Rattle.reading.specs.Listing.{Entry};
-ghost use Rattle.reading.specs.Passing.{Parcels, No-parcel, Entries, No-entry};
+ghost use Rattle.text.specs.Rows.{Begins};
+ghost use Rattle.reading.specs.Listing.{Entry, sizes-row, Wrong-after};
+ghost use Rattle.reading.specs.Passing.{Parcels, No-parcel, Entries, No-entry, All-passed};
 use super::Sizes;
 use super::rows::entry_line;
 use super::rows::parcel_line;
@@ -40,6 +41,20 @@ pub fn check_entries<K: Ranking>(lines: &mut Lines<'_>, sizes: Sizes) -> Result<
             return Err((LINE, sizes.parcels + j + 2));
         };
         low = entry.row;
+    }
+    Ok(())
+}
+
+// Whether all lines after the first are right, and nothing follows them; refuses at the first that is not.
+pub fn check_lines<K: Ranking>(mut lines: Lines<'_>, sizes: Sizes) -> Result<(), Fault>
+    requires few_parcels { ⌜ sizes .parcels ≤ 1024 ⌝ }
+    requires few_entries { ⌜ sizes .entries ≤ 16384 ⌝ }
+    ensures { λ r. ⌜ elim r [ Ok _ ↦ All-passed (K·Ranking .fields) sizes (left (lines .entry)) | Err f ↦ ((k : ℕ) × (f ≡ (1, k + 1)) × ((bs : List ℕ) → Begins (sizes-row sizes ∷ []) bs (left (lines .entry)) → Wrong-after (K·Ranking .fields) sizes k bs)) ] ⌝ }
+{
+    check_parcels(&mut lines, sizes.parcels)?;
+    check_entries::<K>(&mut lines, sizes)?;
+    if !lines.is_at_end() {
+        return Err((LINE, sizes.parcels + sizes.entries + 2));
     }
     Ok(())
 }
