@@ -8,9 +8,10 @@ use Rattle.std.specs.shelf.Lists.{All}
 use Rattle.std.proofs.shelf.Lists.{length-map, map-append, map-push}
 use Rattle.text.specs.Rows.{Begins, none, line}
 use Rattle.text.proofs.OneWay.{begins-strip}
+use Rattle.reading.specs.declared.Sizes.{Sizes}
 use Rattle.reading.specs.declared.rows.Parcel.{Parcel}
 use Rattle.reading.specs.Listing.{Entry, parcel-row, parcel-rows, entry-row, Fit-parcel, Fit-entry, Never-falls}
-use Rattle.reading.specs.Passing.{Parcels, Entries}
+use Rattle.reading.specs.Passing.{Parcels, Entries, All-passed}
 use Rattle.reading.proofs.Passed.{parcel-rows-append, row-of}
 
 -- as many lines at one front are the same lines, and end in one place
@@ -94,3 +95,14 @@ next-entry {count} {parcels} {xs} {was} {a} {c} ys h k less =
       falls-front (map row-of (xs ++ x ∷ [])) (map row-of us) (subst Never-falls order (k .in-order)),
       subst (λ l. Begins (entry-row x ∷ []) l (first .0)) (sym (same .1)) (first .1),
     )
+
+-- lines that were passed once are passed again, to the same end
+pub same-between : {count : ℕ} {z : Sizes} {a b : List ℕ} {ps : List Parcel} (all : All-passed count z a) → Parcels ps a b → length ps ≡ z .parcels → all .between ≡ b
+same-between {ps} all p e =
+    let long : length (parcel-rows 0 (all .passed-parcels)) ≡ length (parcel-rows 0 ps) = omega (arith, length-parcel-rows 0 (all .passed-parcels), length-parcel-rows 0 ps, all .all-parcels) in
+    same-end (all .parcels .written) (p .written) long .1
+
+pub passed-end : {count : ℕ} {z : Sizes} {a b c : List ℕ} {ps : List Parcel} {xs : List Entry} (all : All-passed count z a) → Parcels ps a b → length ps ≡ z .parcels → Entries count (z .parcels) xs b c → length xs ≡ z .entries → c ≡ []
+passed-end {b} {c} {xs} all p e h k =
+    let long : length (map entry-row (all .passed-entries)) ≡ length (map entry-row xs) = omega (arith, length-map (all .passed-entries) entry-row, length-map xs entry-row, all .all-entries) in
+    sym (same-end (all .entries .written) (subst (λ x. Begins (map entry-row xs) x c) (sym (same-between all p e)) (h .written)) long .1)

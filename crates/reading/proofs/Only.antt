@@ -16,7 +16,7 @@ use Rattle.text.proofs.OneWay.{one-row}
 use Rattle.reading.specs.declared.Sizes.{Sizes}
 use Rattle.reading.specs.declared.rows.Parcel.{Parcel}
 use Rattle.reading.specs.Listing.{Entry, Listing, sizes-row, parcel-rows, entry-row, rows, Fit-parcel, Fit-entry, Never-falls, Listed, First-line, Right-lines, Wrong-after}
-use Rattle.reading.specs.Outcome.{Tables, Within, Room, filled, Tried, Refused, Other-lines, Outcome}
+use Rattle.reading.specs.Outcome.{Tables, Within, Room, filled, Tried, Refused, Other-lines, Outcome, Read}
 use Rattle.reading.specs.Passing.{Parcels, Entries}
 use Rattle.reading.proofs.Next.{same-end, begins-part, length-parcel-rows, falls-front}
 use Rattle.reading.proofs.Passed.{parcel-rows-append, row-of}
@@ -125,3 +125,7 @@ module _ {K : Type 0} (made : ℕ → ℕ → K) (count : ℕ) (bs : List ℕ) (
       let z = a .0 in
       let later : Sizes → Type 0 = λ y. Tried (Within y) (Refused made count bs before q other 2 0) (Tried (Room y before) (Refused made count bs before q other 3 0) (Other-lines made count bs before q other y)) in
       tried-one (a .2) (subst later (first-one (a .1) (b .1)) (b .2)) refused-one (λ within c d. tried-one c d refused-one (λ room. lines-one z))
+
+-- an outcome is what is read
+pub read-by : {K : Type 0} {made : ℕ → ℕ → K} {count : ℕ} {bs : List ℕ} {before after : Tables K} {r : Result Sizes (ℕ × ℕ)} → Outcome made count bs before r after → Read made count bs before r after
+read-by {made} {count} {bs} {before} {after} {r} o = record { outcome = o; only = λ q t u. one-outcome made count bs before r q after t o u }

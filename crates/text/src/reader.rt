@@ -26,7 +26,9 @@ fn find(bytes: &[u8], byte: u8) -> Option<usize>
 impl<'a> Lines<'a> {
     /// The lines of the text, from its first.
     pub fn new(text: &'a [u8]) -> Lines<'a>
-        ensures { λ r. ⌜ now (r .text) ≡ now (text .entry) ⌝ ∗ ⌜ r .pos ≡ 0 ⌝ ∗ ⌜ r .number ≡ 0 ⌝ }
+        ensures all { λ r. ⌜ left r ≡ now (text .entry) ⌝ }
+        ensures place { λ r. ⌜ r .pos ≡ 0 ⌝ }
+        ensures number { λ r. ⌜ r .number ≡ 0 ⌝ }
     {
         Lines {
             text,
