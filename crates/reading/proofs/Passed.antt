@@ -30,7 +30,7 @@ last [] = 0
 last (x ∷ []) = x
 last (x ∷ y ∷ ys) = last (y ∷ ys)
 
-pub last-push : (ys : List ℕ) (y : ℕ) → last (ys ++ y ∷ []) ≡ y
+last-push : (ys : List ℕ) (y : ℕ) → last (ys ++ y ∷ []) ≡ y
 last-push [] y = refl
 last-push (x ∷ []) y = refl
 last-push (x ∷ z ∷ ys) y = last-push (z ∷ ys) y
@@ -48,6 +48,9 @@ falls-last (x ∷ z ∷ ys) y h = falls-last (z ∷ ys) y (h .1)
 
 abbrev pub row-of : Entry → ℕ
 row-of x = x .row
+
+pub last-row : (xs : List Entry) (x : Entry) → last (map row-of (xs ++ x ∷ [])) ≡ x .row
+last-row xs x = ap last (map-push row-of xs x) ∙ last-push (map row-of xs) (x .row)
 
 pub entries-push : {count parcels : ℕ} {xs : List Entry} {was a b : List ℕ} (x : Entry) → Entries count parcels xs was a → Fit-entry count parcels x → last (map row-of xs) ≤ x .row → Begins (entry-row x ∷ []) a b → Entries count parcels (xs ++ x ∷ []) was b
 entries-push {count} {parcels} {xs} {was} {b} x h f l n =

@@ -5,7 +5,7 @@ use native.Mathlib.Omega.{arith}
 use Rattle.std.proofs.shelf.Lists.{length-push, map-push}
 use Rattle.text.specs.Rows.{none}
 use Rattle.reading.specs.Listing.{Never-falls}
-use Rattle.reading.proofs.Passed.{row-of, last, last-push, falls-last, entries-push}
+use Rattle.reading.proofs.Passed.{row-of, last-row, falls-last, entries-push}
 use Rattle.reading.proofs.checking.check_entries.Needs as need
 
 pub loop-j-holds : need.loop-j-holds
@@ -32,9 +32,10 @@ pub loop-j-again : need.loop-j-again
 loop-j-again g c =
     let so = c .loop-j .inv in
     let told = c .in-Some .ensures tt in
-    let x = told .entry in (
+    let x = told .entry in
+    let last-is = last-row (so .0) x in (
       so .0 ++ x ∷ [],
       length-push (so .0) x ∙ ap (λ n. n + 1) (so .1),
-      ap last (map-push row-of (so .0) x) ∙ last-push (map row-of (so .0)) (x .row) ∙ sym (told .row),
+      omega (arith, told .row),
       entries-push x (so .3) (told .fit) (omega (arith, so .2, told .in-order)) (told .written),
     )

@@ -9,7 +9,7 @@ use Rattle.reading.specs.Listing.{Never-falls, key-of}
 use Rattle.reading.proofs.Lists.{laid-more}
 use Rattle.reading.proofs.Marks.{Marked, Written, marks, marks-push, marks-all}
 use Rattle.reading.proofs.Next.{next-entry}
-use Rattle.reading.proofs.Passed.{row-of, last, last-push, falls-last, entries-push}
+use Rattle.reading.proofs.Passed.{row-of, last-row, falls-last, entries-push}
 use Rattle.reading.proofs.filling.fill_entries.Needs as need
 
 pub loop-j-holds : need.loop-j-holds
@@ -42,10 +42,10 @@ loop-j-again g c =
     let low = c .in-Some .entry .row in
     let known : low < c .args .sizes .parcels = omega (arith, told .row, told .fit .known) in
     let above : c .loop-j .marked ≤ low + 1 = omega (arith, so .3, told .row, told .in-order) in
-    let new : Written (c .loop-j .starts) (c .mark .last .starts) (c .loop-j .marked) (low + 1) (c .loop-j .j) = record { before = c .mark .ensures .before; within = c .mark .ensures .within; after = c .mark .ensures .after } in (
+    let new : Written (c .loop-j .starts) (c .mark .last .starts) (c .loop-j .marked) (low + 1) (c .loop-j .j) = record { before = c .mark .ensures .before; within = λ k h l. let w = c .mark .ensures .within k h l in omega arith; after = c .mark .ensures .after } in (
       so .0 ++ x ∷ [],
       length-push (so .0) x ∙ ap (λ n. n + 1) (so .1),
-      ap last (map-push row-of (so .0) x) ∙ last-push (map row-of (so .0)) (x .row) ∙ sym (told .row),
+      last-row (so .0) x ∙ sym (told .row),
       omega arith,
       omega arith,
       entries-push x (so .5) (told .fit) (omega (arith, so .2, told .in-order)) (told .written),
