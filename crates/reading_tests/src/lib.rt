@@ -224,4 +224,118 @@ mod tests {
             Some((1, 4)),
         )
     }
+
+    // The values stand in the places needed, and the other places are as they were.
+    #[test]
+    fn tables_of_cents() -> Result<(), Fail> {
+        let mut starts = [9; 6];
+        let mut others = [9; 7];
+        let mut keys = [Cents(9); 7];
+        let mut stores = [9; 5];
+        let mut editions = [9; 5];
+        let sizes = read(
+            ROW.as_bytes(),
+            &mut starts,
+            &mut others,
+            &mut keys,
+            &mut stores,
+            &mut editions,
+        );
+        let sizes = sizes.ok().ok_or("refused")?;
+        check_eq((sizes.parcels, sizes.entries, sizes.stores), (4, 6, 2))?;
+        check_eq(starts, [0, 1, 3, 5, 6, 9])?;
+        check_eq(others, [1, 0, 2, 1, 3, 2, 9])?;
+        check_eq(
+            [
+                keys[0].0,
+                keys[1].0,
+                keys[2].0,
+                keys[3].0,
+                keys[4].0,
+                keys[5].0,
+                keys[6].0,
+            ],
+            [5, 5, 9, 9, 7, 7, 9],
+        )?;
+        check_eq(stores, [0, 0, 1, 1, 9])?;
+        check_eq(editions, [21, 21, 21, 22, 9])
+    }
+
+    // Rows with no entry start where the next one does.
+    #[test]
+    fn tables_of_staged_keys() -> Result<(), Fail> {
+        let mut starts = [9; 5];
+        let mut others = [9; 2];
+        let mut keys = [Staged { band: 9, cents: 9 }; 2];
+        let mut stores = [9; 4];
+        let mut editions = [9; 4];
+        let text = "4,2,3\n0,2,1\n1,0,65535\n2,1,0\n3,0,7\n1,3,2,900\n1,2,0,4294967295\n";
+        let answer = read(
+            text.as_bytes(),
+            &mut starts,
+            &mut others,
+            &mut keys,
+            &mut stores,
+            &mut editions,
+        );
+        check_eq(answer.err(), None)?;
+        check_eq(starts, [0, 0, 2, 2, 2])?;
+        check_eq(others, [3, 2])?;
+        check_eq(
+            [keys[0].band, keys[0].cents, keys[1].band, keys[1].cents],
+            [2, 900, 0, 4294967295],
+        )?;
+        check_eq(stores, [2, 0, 1, 0])?;
+        check_eq(editions, [1, 65535, 0, 7])
+    }
+
+    // The last line is wrong, and no table is touched.
+    #[test]
+    fn refused_tables_stay() -> Result<(), Fail> {
+        let mut starts = [9; 3];
+        let mut others = [9; 2];
+        let mut keys = [Cents(9); 2];
+        let mut stores = [9; 2];
+        let mut editions = [9; 2];
+        let text = "2,2,1\n0,0,21\n1,0,21\n0,1,5\n1,0,x\n";
+        let answer = read(
+            text.as_bytes(),
+            &mut starts,
+            &mut others,
+            &mut keys,
+            &mut stores,
+            &mut editions,
+        );
+        check_eq(answer.err(), Some((1, 5)))?;
+        check_eq(starts, [9; 3])?;
+        check_eq(others, [9; 2])?;
+        check_eq([keys[0].0, keys[1].0], [9; 2])?;
+        check_eq(stores, [9; 2])?;
+        check_eq(editions, [9; 2])
+    }
+
+    #[test]
+    fn parts_of_a_text() -> Result<(), Fail> {
+        let mut lines = Lines::new(b"4,,60\n7\n8");
+        let line = lines.next_line().ok_or("no line")?;
+        check_eq(
+            (line.bytes, line.place, line.line),
+            (b"4,,60" as &[u8], 0, 1),
+        )?;
+        let mut fields = Fields::new(line);
+        let four = fields.next_field().ok_or("no field")?;
+        check_eq((four.bytes, four.place, four.line), (b"4" as &[u8], 0, 1))?;
+        let empty = fields.next_field().ok_or("no field")?;
+        check_eq((empty.bytes, empty.place, empty.line), (b"" as &[u8], 2, 1))?;
+        let sixty = fields.next_field().ok_or("no field")?;
+        check_eq(
+            (sixty.bytes, sixty.place, sixty.line),
+            (b"60" as &[u8], 3, 1),
+        )?;
+        check(fields.next_field().is_none())?;
+        let line = lines.next_line().ok_or("no line")?;
+        check_eq((line.bytes, line.place, line.line), (b"7" as &[u8], 6, 2))?;
+        check(lines.next_line().is_none())?;
+        check(!lines.is_at_end())
+    }
 }
