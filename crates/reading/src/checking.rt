@@ -17,7 +17,7 @@ use ranking::Ranking;
 use text::Lines;
 
 // Passes the lines of all parcels; refuses at the first that is wrong or missing.
-pub fn check_parcels(lines: &mut Lines<'_>, parcels: u32) -> Result<(), Fault>
+pub(super) fn check_parcels(lines: &mut Lines<'_>, parcels: u32) -> Result<(), Fault>
     requires { ⌜ parcels ≤ 1024 ⌝ }
     ensures { λ r. ⌜ elim r [ Ok _ ↦ ((ps : List Parcel) × (length ps ≡ parcels) × Parcels ps (left (now (lines .entry))) (left (now (lines .exit)))) | Err f ↦ ((k : ℕ) × (k < parcels) × (f ≡ (1, k + 2)) × No-parcel k (left (now (lines .entry)))) ] ⌝ }
 {
@@ -30,7 +30,7 @@ pub fn check_parcels(lines: &mut Lines<'_>, parcels: u32) -> Result<(), Fault>
 }
 
 // Passes the lines of all entries; refuses at the first that is wrong or missing.
-pub fn check_entries<K: Ranking>(lines: &mut Lines<'_>, sizes: Sizes) -> Result<(), Fault>
+pub(super) fn check_entries<K: Ranking>(lines: &mut Lines<'_>, sizes: Sizes) -> Result<(), Fault>
     requires { ⌜ sizes .parcels ≤ 1024 ⌝ }
     requires { ⌜ sizes .entries ≤ 16384 ⌝ }
     ensures { λ r. ⌜ elim r [ Ok _ ↦ ((xs : List Entry) × (length xs ≡ sizes .entries) × Entries (K·Ranking .fields) (sizes .parcels) xs (left (now (lines .entry))) (left (now (lines .exit)))) | Err f ↦ ((k : ℕ) × (k < sizes .entries) × (f ≡ (1, sizes .parcels + k + 2)) × No-entry (K·Ranking .fields) (sizes .parcels) k (left (now (lines .entry)))) ] ⌝ }
@@ -46,7 +46,7 @@ pub fn check_entries<K: Ranking>(lines: &mut Lines<'_>, sizes: Sizes) -> Result<
 }
 
 // Whether all lines after the first are right, and nothing follows them; refuses at the first that is not.
-pub fn check_lines<K: Ranking>(mut lines: Lines<'_>, sizes: Sizes) -> Result<(), Fault>
+pub(super) fn check_lines<K: Ranking>(mut lines: Lines<'_>, sizes: Sizes) -> Result<(), Fault>
     requires few_parcels { ⌜ sizes .parcels ≤ 1024 ⌝ }
     requires few_entries { ⌜ sizes .entries ≤ 16384 ⌝ }
     ensures { λ r. ⌜ elim r [ Ok _ ↦ All-passed (K·Ranking .fields) sizes (left (lines .entry)) | Err f ↦ ((k : ℕ) × (f ≡ (1, k + 1)) × ((bs : List ℕ) → Begins (sizes-row sizes ∷ []) bs (left (lines .entry)) → Wrong-after (K·Ranking .fields) sizes k bs)) ] ⌝ }

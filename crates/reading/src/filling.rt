@@ -14,7 +14,12 @@ use ranking::Ranking;
 use text::Lines;
 
 // Writes the parcels' stores and editions; their lines were passed before.
-pub fn fill_parcels(lines: &mut Lines<'_>, parcels: u32, stores: &mut [u32], editions: &mut [u16])
+pub(super) fn fill_parcels(
+    lines: &mut Lines<'_>,
+    parcels: u32,
+    stores: &mut [u32],
+    editions: &mut [u16],
+)
     requires room_for_stores { ⌜ parcels ≤ length (now stores) ⌝ }
     requires room_for_editions { ⌜ parcels ≤ length (now editions) ⌝ }
     requires passed { ⌜ ((ps : List Parcel) × (rest : List ℕ) × (length ps ≡ parcels) × Parcels ps (left (now lines)) rest) ⌝ }
@@ -43,7 +48,7 @@ fn mark(starts: &mut [u32], from: u32, to: u32, value: u32)
 }
 
 // Writes the starts of all rows, and the entries' other parcels and keys; their lines were passed before.
-pub fn fill_entries<K: Ranking>(
+pub(super) fn fill_entries<K: Ranking>(
     lines: &mut Lines<'_>,
     sizes: Sizes,
     starts: &mut [u32],

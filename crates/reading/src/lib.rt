@@ -1,5 +1,6 @@
 //! A sheet's text is read into tables that the caller lends. docs/TEXT.md has the form of the text.
 ghost use Rattle.std.specs.Orderings.{Decides};
+ghost use Rattle.reading.specs.Examples.{Examples};
 ghost use Rattle.reading.specs.Outcome.{tables, Within, Room, Read};
 use checking::check_lines;
 use faults::Fault;
@@ -88,3 +89,8 @@ pub fn read<K: Ranking>(
     fill_entries(&mut lines, sizes, starts, others, keys);
     Ok(sizes)
 }
+
+/// A small listing, worked out.
+pub fn worked_out()
+    ensures { λ _. ⌜ Examples ⌝ }
+{}

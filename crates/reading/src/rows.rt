@@ -41,7 +41,7 @@ fn next_numbers<const N: usize>(lines: &mut Lines<'_>) -> Option<[u32; N]>
 }
 
 // The sizes in the next line; none where it has not the form.
-pub fn first_line(lines: &mut Lines<'_>) -> Option<Sizes>
+pub(super) fn first_line(lines: &mut Lines<'_>) -> Option<Sizes>
     ensures { λ r. ⌜ elim r [ Some z ↦ Begins (sizes-row z ∷ []) (left (now (lines .entry))) (left (now (lines .exit))) | None ↦ ((z : Sizes) (rest : List ℕ) → Begins (sizes-row z ∷ []) (left (now (lines .entry))) rest → ⊥) ] ⌝ }
 {
     let values = next_numbers::<3>(lines)?;
@@ -54,7 +54,7 @@ pub fn first_line(lines: &mut Lines<'_>) -> Option<Sizes>
 }
 
 // The parcel in the next line, which is to have this number; none where the line has not the form.
-pub fn parcel_line(lines: &mut Lines<'_>, number: u32) -> Option<Parcel>
+pub(super) fn parcel_line(lines: &mut Lines<'_>, number: u32) -> Option<Parcel>
     ensures { λ r. ⌜ elim r [ Some p ↦ Fit-parcel p × Begins (parcel-row number p ∷ []) (left (now (lines .entry))) (left (now (lines .exit))) | None ↦ ((p : Parcel) (rest : List ℕ) → Fit-parcel p → Begins (parcel-row number p ∷ []) (left (now (lines .entry))) rest → ⊥) ] ⌝ }
 {
     let values = next_numbers::<3>(lines)?;
@@ -83,7 +83,11 @@ fn entry_numbers(lines: &mut Lines<'_>, count: usize) -> Option<[u32; 4]>
 }
 
 // The entry in the next line, in the row of one of the parcels and not below the row `low`; none where the line has not the form.
-pub fn entry_line<K: Ranking>(lines: &mut Lines<'_>, parcels: u32, low: u32) -> Option<EntryLine<K>>
+pub(super) fn entry_line<K: Ranking>(
+    lines: &mut Lines<'_>,
+    parcels: u32,
+    low: u32,
+) -> Option<EntryLine<K>>
     ensures { λ r. ⌜ elim r [ Some line ↦ Read-entry (K·Ranking .made) (K·Ranking .fields) parcels low (left (now (lines .entry))) (left (now (lines .exit))) line | None ↦ ((x : Entry) (rest : List ℕ) → Fit-entry (K·Ranking .fields) parcels x → low ≤ x .row → Begins (entry-row x ∷ []) (left (now (lines .entry))) rest → ⊥) ] ⌝ }
 {
     let values = entry_numbers(lines, K::field_count())?;

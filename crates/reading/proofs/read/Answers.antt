@@ -3,6 +3,7 @@ use mathlib.Core.List.{List, [], _∷_}
 use mathlib.Core.Logic.{inl, inr}
 use Prim.Native.Nat.{ℕ, _+_}
 use native.Mathlib.Omega.{arith}
+use lib.ListN.{length}
 use Rattle.std.specs.declared.result.Result.the-variants.{Ok, Err}
 use Rattle.std.proofs.shelf.Results.{err-from-errBy}
 use Rattle.std.proofs.shelf.Tests.{false≢true}
@@ -45,12 +46,13 @@ fill-entries-requires g c κs =
     let all = c .in-Continue-check-lines .ensures tt in
     let parcels = c .fill-parcels .ensures in
     let room = c .if-not-has-room .ensures tt .0 refl in
+    let many : length (parcels .0) ≡ c .in-Some .sizes .parcels = omega (arith, parcels .1) in
     record {
       few = c .if-not-is-within .ensures tt .0 refl .parcels;
       room-for-starts = room .starts;
       room-for-others = room .others;
       room-for-keys = room .keys;
-      passed = (all .passed-entries, [], all .all-entries, subst (λ x. Entries (g .K·Ranking .fields) (c .in-Some .sizes .parcels) (all .passed-entries) x []) (same-between all (parcels .2) (parcels .1)) (all .entries));
+      passed = (all .passed-entries, [], all .all-entries, subst (λ x. Entries (g .K·Ranking .fields) (c .in-Some .sizes .parcels) (all .passed-entries) x []) (same-between all (parcels .2) many) (all .entries));
     }
 
 pub returns : need.returns
@@ -59,6 +61,7 @@ returns g c =
     let all = c .in-Continue-check-lines .ensures tt in
     let parcels = c .fill-parcels .ensures in
     let entries = c .fill-entries .ensures in
-    let end = passed-end all (parcels .2) (parcels .1) (entries .2) (entries .1) in
-    let l = listed first (parcels .0) (parcels .2) (parcels .1) (entries .0) (entries .2) (entries .1) end in
+    let many : length (parcels .0) ≡ c .in-Some .sizes .parcels = omega (arith, parcels .1) in
+    let end = passed-end all (parcels .2) many (entries .2) (entries .1) in
+    let l = listed first (parcels .0) (parcels .2) many (entries .0) (entries .2) (entries .1) end in
     read-by (inr (_, (_, first), inr (c .if-not-is-within .ensures tt .0 refl, inr (c .if-not-has-room .ensures tt .0 refl, inr (_, l, refl, refl, λ i. tables (entries .3 i) (entries .4 i) (entries .5 i) (parcels .3 i) (parcels .4 i))))))
