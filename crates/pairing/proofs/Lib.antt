@@ -1,0 +1,4 @@
+pub mod Entries
+pub mod Members
+pub mod Keys
+pub mod Orders

@@ -1,0 +1,4 @@
+pub mod Core
+pub mod Entries
+pub mod Hear
+pub mod Choose
