@@ -1,1 +1,3 @@
 pub mod Chosen
+pub mod Put
+pub mod Digits
