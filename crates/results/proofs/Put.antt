@@ -2,15 +2,20 @@
 use mathlib.Core.Path.{_≡_, sym, ap, _∙_}
 use mathlib.Core.List.{List, [], _∷_, _++_, append-assoc}
 use Prim.Native.Nat.{ℕ, _+_, _≤_, _<_}
+use native.Mathlib.Nat.{add-zero}
 use native.Mathlib.Numerals.{add-one}
 use native.Mathlib.Omega.{arith}
 use lib.ListN.{length, take, drop, set}
-use Rattle.std.proofs.shelf.Lists.{length-append, length-drop, length-take-le, take-at, drop-at, drop-drop, set-split}
+use Rattle.std.proofs.shelf.Lists.{length-append, length-drop, length-take-le, take-at, drop-at, drop-drop, set-split, take-append-drop}
 use Rattle.results.specs.Text.{put-in}
 
 -- one byte
 pub put-one : (b : List ℕ) (at y : ℕ) → at < length b → set b at y ≡ put-in b at (y ∷ [])
 put-one b at y within = set-split b at y within ∙ ap (λ p. take at b ++ y ∷ drop p b) (sym (add-one at))
+
+-- nothing
+pub put-none : (b : List ℕ) (at : ℕ) → put-in b at [] ≡ b
+put-none b at = ap (λ p. take at b ++ drop p b) (add-zero at) ∙ take-append-drop at b
 
 module _ (b : List ℕ) (at : ℕ) (x : List ℕ) (fits : at + length x ≤ length b) where
   front-length : length (take at b ++ x) ≡ at + length x

@@ -14,13 +14,17 @@ use Rattle.records.specs.Right.{Right, Refused}
 
 -- a field of a line: a number's decimal digits, and the byte after it
 abbrev pub field : ℕ → ℕ → List ℕ
-field n mark = decimal n ++ mark ∷ []
+field n after = decimal n ++ after ∷ []
 
--- a line: its numbers, with a comma (byte 44) after each but the last, and byte 10 after that
+-- the byte after a number: byte 10 if none follows in its line, else a comma (byte 44)
+abbrev pub mark : List ℕ → ℕ
+mark [] = 10
+mark (n ∷ ns) = 44
+
+-- a line: its numbers, each with the byte after it
 abbrev pub line : List ℕ → List ℕ
 line [] = []
-line (n ∷ []) = field n 10
-line (n ∷ m ∷ ns) = field n 44 ++ line (m ∷ ns)
+line (n ∷ ns) = field n (mark ns) ++ line ns
 
 -- the line of a pair: the lower parcel, then the higher one
 abbrev pub pair-line : Pair → List ℕ
@@ -39,7 +43,7 @@ abbrev pub put-in : List ℕ → ℕ → List ℕ → List ℕ
 put-in buffer at bytes = take at buffer ++ (bytes ++ drop (at + length bytes) buffer)
 
 -- the text was written to the front of the buffer; past it the buffer holds what it held
-pub record Written {K : Type 0} (t : Graph K) (rs : List Record) (n : Totals) (old new : List ℕ) (count : ℕ) : Type 0 where
+pub record Printed {K : Type 0} (t : Graph K) (rs : List Record) (n : Totals) (old new : List ℕ) (count : ℕ) : Type 0 where
   pub right : Right t rs
   pub counted : count ≡ length (result-text n (lower-pairs t rs))
   pub fits : count ≤ length old
@@ -47,5 +51,5 @@ pub record Written {K : Type 0} (t : Graph K) (rs : List Record) (n : Totals) (o
 
 -- the text is refused with this number at this place: the records, or else a buffer shorter than the text
 pub data Text-refused {K : Type 0} (t : Graph K) (rs : List Record) (n : Totals) (room : ℕ) : ℕ → ℕ → Type 0 where
-  records : {k p : ℕ} → Refused t rs k p → Text-refused t rs n room k p
+  by-records : {k p : ℕ} → Refused t rs k p → Text-refused t rs n room k p
   short : Right t rs → room < length (result-text n (lower-pairs t rs)) → Text-refused t rs n room 3 0

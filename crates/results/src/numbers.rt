@@ -6,7 +6,8 @@ ghost use Rattle.results.specs.Text.{put-in, field};
 
 // How many decimal digits `n` has.
 pub(crate) fn digit_count(n: u32) -> usize
-    ensures { λ r. ⌜ r ≡ length (decimal n) ⌝ }
+    ensures value { λ r. ⌜ r ≡ length (decimal n) ⌝ }
+    ensures bound { λ r. ⌜ r ≤ 10 ⌝ }
 {
     let mut count = 1;
     let mut rest = n;

@@ -1,4 +1,7 @@
+use mathlib.Core.Path.{_≡_}
 use native.Mathlib.Omega.{arith}
+use lib.ListN.{length}
+use Rattle.std.specs.Written.{decimal}
 use Rattle.results.proofs.Digits.{digits-one, digits-step, digits-some, digits-few}
 use Rattle.results.proofs.numbers.digit_count.Needs as need
 
@@ -11,4 +14,6 @@ loop-rest-again c =
     (omega (arith, c .loop-rest .inv .0), omega (arith, c .loop-rest .inv .1))
 
 pub returns : need.returns
-returns c = omega (arith, c .loop-rest .inv .0, digits-one (c .loop-rest .rest) (omega (arith, c .loop-rest-test .left)))
+returns c =
+    let count : c .loop-rest .count ≡ length (decimal (c .args .n)) = omega (arith, c .loop-rest .inv .0, digits-one (c .loop-rest .rest) (omega (arith, c .loop-rest-test .left))) in
+    record { value = count; bound = omega (arith, digits-few (c .args .n) (omega (arith, c .fits .n))) }

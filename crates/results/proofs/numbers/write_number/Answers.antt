@@ -9,12 +9,12 @@ use Rattle.results.proofs.Digits.{digits-one, digits-step, digits-some, one-di
 use Rattle.results.proofs.numbers.write_number.Needs as need
 
 pub sub-place : need.sub-place
-sub-place c = omega (arith, c .digit-count .ensures, digits-some (c .args .n) (omega (arith, c .fits .n)))
+sub-place c = omega (arith, c .digit-count .ensures .value, digits-some (c .args .n) (omega (arith, c .fits .n)))
 
 pub loop-rest-holds : need.loop-rest-holds
 loop-rest-holds c =
     let some = digits-some (c .args .n) (omega (arith, c .fits .n)) in
-    let count = c .digit-count .ensures in
+    let count = c .digit-count .ensures .value in
     let same : c .args .at + c .digit-count .result - 1 + 1 ≡ c .args .at + c .digit-count .result = omega arith in
     (omega arith, omega arith, omega arith, refl, ap (λ p. decimal (c .args .n) ++ drop p (c .args .buffer .now)) same)
 
@@ -33,7 +33,7 @@ loop-rest-again c =
     let small : rest < 4294967296 = omega (arith, inv .0, c .fits .n) in
     let step = digits-step rest more small in
     let some = digits-some (rest / 10) (omega arith) in
-    let within : place < length b = omega (arith, inv .2, c .digit-count .ensures, c .pre, c .loop-rest .kept .buffer) in (
+    let within : place < length b = omega (arith, inv .2, c .digit-count .ensures .value, c .pre, c .loop-rest .kept .buffer) in (
       omega (arith, inv .0),
       omega (arith, inv .1),
       omega (arith, inv .2),
@@ -52,7 +52,7 @@ returns c =
     let inv = c .loop-rest .inv in
     let less : rest < 10 = omega (arith, c .loop-rest-test .left) in
     let here : place ≡ at = omega (arith, inv .1, digits-one rest less) in
-    let end : at + c .digit-count .result ≡ at + length (decimal n) = omega (arith, c .digit-count .ensures) in
+    let end : at + c .digit-count .result ≡ at + length (decimal n) = omega (arith, c .digit-count .ensures .value) in
     let within : place < length b = omega (arith, inv .2, c .pre, c .loop-rest .kept .buffer) in
     record {
       end = end;
