@@ -9,13 +9,14 @@ use lib.Dec.{eqb, ltb}
 use lib.ListN.{length, getD}
 use Rattle.std.specs.Iters.{counting}
 use Rattle.std.specs.Options.{isSome}
+use Rattle.std.specs.declared.option.Option.{Option}
 use Rattle.std.specs.declared.option.Option.the-variants.{Some, None}
 use Rattle.std.specs.shelf.Lists.{kept-by, countBy, sumBy}
 use Rattle.std.proofs.shelf.Counted.{map-counting-more, length-counting}
 use Rattle.std.proofs.shelf.Elements.{kept-by-append}
 use Rattle.std.proofs.shelf.Lists.{getD-past, append-nil, map-id, map-push, length-map, length-push}
 use Rattle.std.proofs.shelf.Sums.{sumBy-push, countBy-le-length, length-kept-by}
-use Rattle.std.proofs.shelf.Tests.{eq-eqb, ne-eqb, le-ltb, ltb-true, eqb-true, and-left, and-right, and-parts, cond-true, cond-false, cases-bool, cases-lt}
+use Rattle.std.proofs.shelf.Tests.{true≢false, false≢true, eq-eqb, ne-eqb, le-ltb, ltb-true, eqb-true, and-left, and-right, and-parts, cond-true, cond-false, cases-bool, cases-lt}
 use Rattle.matching.specs.Pairs.{Pair}
 use Rattle.sheet.specs.Graph.{Graph, parcels, row-end}
 use Rattle.records.specs.declared.Record.{Record}
@@ -95,12 +96,13 @@ module _ {K : Type 0} (t : Graph K) (rs : List Record) where
   pairs-more-none u is = pairs-more-no u (none-pairs u is)
 
   -- how many there are then
-  pub count-more : (u : ℕ) → length (pairs-below t rs (u + 1)) ≡ length (pairs-below t rs u) + cond (isSome (partner-above t rs u)) 1 0
-  count-more u =
-      ⊎-elim
-      (λ y. ap length (pairs-more-yes u y) ∙ length-push (pairs-below t rs u) (own-pair t rs u) ∙ ap (λ b. length (pairs-below t rs u) + cond (isSome (cond b (Some (chosen t rs u)) None)) 1 0) (sym y))
-      (λ n. let none : cond {A = ℕ} (isSome (partner-above t rs u)) 1 0 ≡ 0 = ap (λ o. cond (isSome o) 1 0) (sym (none-above u n)) in omega (arith, ap length (pairs-more-no u n)))
-      (cases-bool (pairs-up t rs u))
+  pub count-more-yes : (u : ℕ) (r : Option ℕ) → r ≡ partner-above t rs u → true ≡ isSome r → length (pairs-below t rs (u + 1)) ≡ length (pairs-below t rs u) + 1
+  count-more-yes u None is some = absurd (true≢false some)
+  count-more-yes u (Some v) is some = ap length (pairs-more-some u v is) ∙ length-push (pairs-below t rs u) (record { lo = u; hi = v })
+
+  pub count-more-no : (u : ℕ) (r : Option ℕ) → r ≡ partner-above t rs u → false ≡ isSome r → length (pairs-below t rs (u + 1)) ≡ length (pairs-below t rs u)
+  count-more-no u None is none = ap length (pairs-more-none u is)
+  count-more-no u (Some v) is none = absurd (false≢true none)
 
   pub pairs-few : (n : ℕ) → length (pairs-below t rs n) ≤ n
   pairs-few n =

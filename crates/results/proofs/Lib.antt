@@ -2,3 +2,4 @@ pub mod Chosen
 pub mod Put
 pub mod Digits
 pub mod Lines
+pub mod Pairs

@@ -2,7 +2,7 @@
 use mathlib.Core.Path.{_≡_, sym, ap, _∙_}
 use mathlib.Core.List.{List, [], _∷_, _++_, append-assoc}
 use Prim.Native.Nat.{ℕ, _+_, _≤_, _<_}
-use native.Mathlib.Nat.{add-zero}
+use native.Mathlib.Nat.{add-zero, zero-add}
 use native.Mathlib.Numerals.{add-one}
 use native.Mathlib.Omega.{arith}
 use lib.ListN.{length, take, drop, set}
@@ -44,3 +44,12 @@ module _ (b : List ℕ) (at : ℕ) (x : List ℕ) (fits : at + length x ≤ leng
       ∙ ap (λ r. (take at b ++ x) ++ (y ++ r)) (drop-put (length y) ∙ ap (λ n. drop n b) long)
       ∙ append-assoc (take at b) x (y ++ drop (at + length (x ++ y)) b)
       ∙ ap (λ r. take at b ++ r) (sym (append-assoc x y (drop (at + length (x ++ y)) b)))
+
+-- two parts at the front
+pub put-front : (b x y mid new : List ℕ) (at count : ℕ) → length x ≤ length b → mid ≡ put-in b 0 x → at ≡ 0 + length x → new ≡ put-in mid at y → count ≡ length (x ++ y) → new ≡ (x ++ y) ++ drop count b
+put-front b x y mid new at count fits first from second is =
+    second
+    ∙ ap (λ m. put-in m at y) first
+    ∙ ap (λ p. put-in (put-in b 0 x) p y) from
+    ∙ put-put b 0 x (omega arith) y
+    ∙ ap (λ p. (x ++ y) ++ drop p b) (zero-add (length (x ++ y)) ∙ sym is)
