@@ -29,8 +29,8 @@ loop-i-again c =
     let long = length-line-more ns i (c .loop-i-test .taken) in
     let is : after ≡ mark (drop (i + 1) ns) =
     elim (c .if-i-numbers .came) [
-      | then-i-numbers w ↦ w .after-is ∙ mark-more ns (i + 1) (w .if-i-numbers .taken)
-      | else-i-numbers w ↦ w .after-is ∙ mark-none ns (i + 1) (w .if-i-numbers .left)
+      | then-i-numbers w ↦ w .after-is ∙ mark-more ns (i + 1) (omega (arith, w .if-i-numbers .taken))
+      | else-i-numbers w ↦ w .after-is ∙ mark-none ns (i + 1) (omega (arith, w .if-i-numbers .left))
     ] in (
       omega (arith, c .loop-i .inv .0, length-field n after),
       ap (λ x. put-in x (c .write-field-place .result) rest) (c .write-field-place .ensures .bytes)
