@@ -7,6 +7,7 @@ ghost use Rattle.std.specs.declared.result.Result.the-variants.{Ok, Err};
 ghost use Rattle.sheet.specs.Graph.{parcels, sized, fitted};
 ghost use Rattle.sheet.specs.View.{graph};
 ghost use Rattle.sheet.specs.Held.{held};
+ghost use Rattle.records.specs.Example.{Row-of-four};
 ghost use Rattle.records.specs.Records.{astray};
 ghost use Rattle.records.specs.Right.{Right, Refused, Lowest};
 ghost use Rattle.records.specs.Listed.{Listed, partner-above, lower-pairs, lone-count};
@@ -165,3 +166,8 @@ pub fn count<K: Copy>(sheet: &Sheet<K>, records: &[Record]) -> Tally
         lone: count_lone(sheet, records),
     }
 }
+
+/// The example of four parcels in a row.
+pub fn row_of_four()
+    ensures { λ _. ⌜ Row-of-four ⌝ }
+{}
