@@ -10,7 +10,7 @@ use Rattle.sheet.specs.Graph.{Graph, parcels, row-start, other, In-row}
 use Rattle.choosing.specs.Top.{Top}
 use Rattle.records.specs.Records.{state, choice, chosen}
 use Rattle.records.specs.declared.Record.{Record}
-use Rattle.outright.specs.Pointing.{free, Settled}
+use Rattle.outright.specs.Pointing.{free, Settled, Kept}
 
 -- how many parcels are paired
 abbrev pub paired-count : List Record → ℕ
@@ -21,6 +21,12 @@ pub record Listing (rs : List Record) (work : List ℕ) (k : ℕ) : Type 0 where
   pub counted : k ≡ paired-count rs
   pub only : (i : ℕ) → i < k → state rs (getD work i 0) ≡ 2
   pub each : (u : ℕ) → state rs u ≡ 2 → (i : ℕ) × (i < k) × (getD work i 0 ≡ u)
+
+-- a worklist with room for every parcel lists the paired ones, and the records are kept right
+pub record Ready {K : Type 0} (atleast : K → K → Bool) (t : Graph K) (rs : List Record) (work : List ℕ) (k : ℕ) : Type 0 where
+  pub kept : Kept atleast t rs
+  pub listing : Listing rs work k
+  pub room : parcels t ≤ length work
 
 module _ {K : Type 0} (atleast : K → K → Bool) (t : Graph K) (v : ℕ) where
   -- v has settled: lone, waiting at the best free entry, or paired there with a parcel that waited for v; the two are then put on the worklist

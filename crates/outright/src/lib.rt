@@ -1,1 +1,109 @@
-//! Outright pairing.
+//! Outright pairing: the greedy pairing of a sheet, found without sorting. Each parcel points at its best free entry;
+//! two parcels that point at each other are paired, and only those that pointed at one of them look again.
+ghost use mathlib.Core.Path.{_≡_};
+ghost use mathlib.Core.Bool.{_&&_};
+ghost use Prim.Native.Nat.{ℕ, _+_, _<_, _≤_};
+ghost use denote.Ref.{now};
+ghost use lib.Dec.{eqb};
+ghost use lib.ListN.{length, set};
+ghost use Rattle.sheet.specs.Graph.{parcels, entries, fitted};
+ghost use Rattle.sheet.specs.View.{graph};
+ghost use Rattle.sheet.specs.Held.{held};
+ghost use Rattle.choosing.specs.Top.{Choice};
+ghost use Rattle.records.specs.Records.{state, choice as choice-of, chosen-place, chosen};
+ghost use Rattle.outright.specs.Pointing.{unpaired-at, free};
+ghost use Rattle.outright.specs.Settling.{Ready, Settles};
+use choosing::Candidates;
+use choosing::top_entry;
+use ranking::Ranking;
+use records::LONE;
+use records::PAIRED;
+use records::Record;
+use records::WAITS;
+use sheet::Sheet;
+use sheet::Tables;
+
+// Entries that are free: the parcel that they name is not yet paired.
+#[derive(Clone, Copy)]
+struct Free<'a, 'b> {
+    others: &'a [u32],
+    records: &'b [Record],
+}
+
+impl Candidates for Free<'_, '_> as FreeCandidates {
+    ghost stands = { λ s. unpaired-at (now (s .others)) (now (s .records)) };
+
+    fn stands_at(&self, place: usize) -> bool {
+        place < self.others.len() && !is_paired(self.records, self.others[place] as usize)
+    }
+}
+
+// Whether parcel `u` is paired.
+fn is_paired(records: &[Record], u: usize) -> bool
+    ensures { λ r. ⌜ r ≡ eqb (state (now (records .entry)) u) 2 ⌝ }
+{
+    u < records.len() && records[u].state == PAIRED
+}
+
+// The best free entry of parcel `v`, if its row has a free one.
+fn best_free<K: Ranking>(sheet: &Sheet<K>, records: &[Record], v: usize) -> Option<usize>
+    ensures { λ r. ⌜ Choice atleast (held (now (sheet .entry))) (free (held (now (sheet .entry))) (now (records .entry))) v r ⌝ }
+{
+    let others = sheet.tables().others;
+    top_entry(sheet, v, &Free { others, records })
+}
+
+// Whether parcel `w` waits at parcel `v`.
+fn waits_at<K: Copy>(t: Tables<K>, records: &[Record], w: usize, v: usize) -> bool
+    requires { ⌜ w < length (now records) ⌝ ∗ ⌜ w < length (now (t .starts)) ⌝ ∗ ⌜ (state (now records) w ≡ 1 → chosen-place (graph t) (now records) w < entries (graph t)) ⌝ }
+    ensures { λ r. ⌜ r ≡ (eqb (state (now (records .entry)) w) 1 && eqb (chosen (graph (t .entry)) (now (records .entry)) w) v) ⌝ }
+{
+    let record = records[w];
+    record.state == WAITS && t.others[t.starts[w] as usize + record.choice as usize] as usize == v
+}
+
+// Pairs parcel `v`, at this choice, with parcel `w`, at the choice that it waits with, and lists both.
+fn pair(records: &mut [Record], worklist: &mut [u32], listed: usize, v: u32, choice: u32, w: u32) -> usize
+    requires { ⌜ v < length (now records) ⌝ ∗ ⌜ w < length (now records) ⌝ ∗ ⌜ (w ≡ v → ⊥) ⌝ ∗ ⌜ listed + 2 ≤ length (now worklist) ⌝ }
+    ensures paired { λ _. ⌜ now (records .exit) ≡ set (set (now (records .entry)) v (record { state = 2; choice = choice })) w (record { state = 2; choice = choice-of (now (records .entry)) w }) ⌝ }
+    ensures work { λ _. ⌜ now (worklist .exit) ≡ set (set (now (worklist .entry)) listed v) (listed + 1) w ⌝ }
+    ensures count { λ r. ⌜ r ≡ listed + 2 ⌝ }
+{
+    records[v as usize] = Record {
+        state: PAIRED,
+        choice,
+    };
+    records[w as usize].state = PAIRED;
+    worklist[listed] = v;
+    worklist[listed + 1] = w;
+    listed + 2
+}
+
+// Parcel `v` looks through its row: it points at its best free entry, and is paired there if that parcel waits at `v`;
+// with no free entry it is lone. Returns how many parcels the worklist then lists.
+fn settle<K: Ranking>(sheet: &Sheet<K>, records: &mut [Record], worklist: &mut [u32], listed: usize, v: u32) -> usize
+    requires ready { ⌜ Ready atleast (held (now sheet)) (now records) (now worklist) listed ⌝ }
+    requires parcel { ⌜ v < parcels (held (now sheet)) ⌝ }
+    requires unpaired { ⌜ (state (now records) v ≡ 2 → ⊥) ⌝ }
+    ensures { λ r. ⌜ Settles atleast (held (now (sheet .entry))) v (now (records .entry)) (now (worklist .entry)) listed (now (records .exit)) (now (worklist .exit)) r ⌝ }
+{
+    let tables = sheet.tables();
+    let Some(p) = best_free(sheet, records, v as usize) else {
+        records[v as usize] = Record {
+            state: LONE,
+            choice: 0,
+        };
+        return listed;
+    };
+    let choice = (p - tables.starts[v as usize] as usize) as u32;
+    let w = tables.others[p];
+    if waits_at(tables, records, w as usize, v as usize) {
+        pair(records, worklist, listed, v, choice, w)
+    } else {
+        records[v as usize] = Record {
+            state: WAITS,
+            choice,
+        };
+        listed
+    }
+}
