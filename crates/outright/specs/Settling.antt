@@ -46,3 +46,15 @@ pub record Onward {K : Type 0} (t : Graph K) (rs : List Record) (work : List ℕ
   pub paired : (u : ℕ) → state rs u ≡ 2 → state rs′ u ≡ 2
   -- who waits at a parcel that was paired before, waited there before
   pub no-new : (u : ℕ) → state rs′ u ≡ 1 → state rs (chosen t rs′ u) ≡ 2 → (state rs u ≡ 1) × (chosen t rs u ≡ chosen t rs′ u)
+
+-- every parcel has settled
+abbrev pub All-settled : {K : Type 0} → Graph K → List Record → Type 0
+All-settled t rs = (u : ℕ) → u < parcels t → Settled rs u
+
+-- no parcel waits at u
+abbrev pub None-waits-at : {K : Type 0} → Graph K → List Record → ℕ → Type 0
+None-waits-at t rs u = (x : ℕ) → x < parcels t → state rs x ≡ 1 → chosen t rs x ≡ u → ⊥
+
+-- no parcel waits at one that is paired
+abbrev pub All-renewed : {K : Type 0} → Graph K → List Record → Type 0
+All-renewed t rs = (u : ℕ) → state rs u ≡ 2 → None-waits-at t rs u

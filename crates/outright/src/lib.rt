@@ -11,8 +11,8 @@ ghost use Rattle.sheet.specs.View.{graph};
 ghost use Rattle.sheet.specs.Held.{held};
 ghost use Rattle.choosing.specs.Top.{Choice};
 ghost use Rattle.records.specs.Records.{state, choice as choice-of, chosen-place, chosen};
-ghost use Rattle.outright.specs.Pointing.{unpaired-at, free};
-ghost use Rattle.outright.specs.Settling.{Ready, Settles};
+ghost use Rattle.outright.specs.Pointing.{unpaired-at, free, Kept};
+ghost use Rattle.outright.specs.Settling.{Ready, Settles, Onward, All-settled, None-waits-at, All-renewed};
 use choosing::Candidates;
 use choosing::top_entry;
 use ranking::Ranking;
@@ -63,7 +63,14 @@ fn waits_at<K: Copy>(t: Tables<K>, records: &[Record], w: usize, v: usize) -> bo
 }
 
 // Pairs parcel `v`, at this choice, with parcel `w`, at the choice that it waits with, and lists both.
-fn pair(records: &mut [Record], worklist: &mut [u32], listed: usize, v: u32, choice: u32, w: u32) -> usize
+fn pair(
+    records: &mut [Record],
+    worklist: &mut [u32],
+    listed: usize,
+    v: u32,
+    choice: u32,
+    w: u32,
+) -> usize
     requires { ⌜ v < length (now records) ⌝ ∗ ⌜ w < length (now records) ⌝ ∗ ⌜ (w ≡ v → ⊥) ⌝ ∗ ⌜ listed + 2 ≤ length (now worklist) ⌝ }
     ensures paired { λ _. ⌜ now (records .exit) ≡ set (set (now (records .entry)) v (record { state = 2; choice = choice })) w (record { state = 2; choice = choice-of (now (records .entry)) w }) ⌝ }
     ensures work { λ _. ⌜ now (worklist .exit) ≡ set (set (now (worklist .entry)) listed v) (listed + 1) w ⌝ }
@@ -81,7 +88,13 @@ fn pair(records: &mut [Record], worklist: &mut [u32], listed: usize, v: u32, cho
 
 // Parcel `v` looks through its row: it points at its best free entry, and is paired there if that parcel waits at `v`;
 // with no free entry it is lone. Returns how many parcels the worklist then lists.
-fn settle<K: Ranking>(sheet: &Sheet<K>, records: &mut [Record], worklist: &mut [u32], listed: usize, v: u32) -> usize
+fn settle<K: Ranking>(
+    sheet: &Sheet<K>,
+    records: &mut [Record],
+    worklist: &mut [u32],
+    listed: usize,
+    v: u32,
+) -> usize
     requires ready { ⌜ Ready atleast (held (now sheet)) (now records) (now worklist) listed ⌝ }
     requires parcel { ⌜ v < parcels (held (now sheet)) ⌝ }
     requires unpaired { ⌜ (state (now records) v ≡ 2 → ⊥) ⌝ }
@@ -105,5 +118,67 @@ fn settle<K: Ranking>(sheet: &Sheet<K>, records: &mut [Record], worklist: &mut [
             choice,
         };
         listed
+    }
+}
+
+// Every parcel looks through its row, the lowest first. Returns how many parcels the worklist then lists.
+fn settle_all<K: Ranking>(sheet: &Sheet<K>, records: &mut [Record], worklist: &mut [u32]) -> usize
+    requires idle { ⌜ ((u : ℕ) → state (now records) u ≡ 0) ⌝ }
+    requires long { ⌜ length (now records) ≡ parcels (held (now sheet)) ⌝ }
+    requires room { ⌜ parcels (held (now sheet)) ≤ length (now worklist) ⌝ }
+    ensures ready { λ r. ⌜ Ready atleast (held (now (sheet .entry))) (now (records .exit)) (now (worklist .exit)) r ⌝ }
+    ensures settled { λ _. ⌜ All-settled (held (now (sheet .entry))) (now (records .exit)) ⌝ }
+{
+    let mut listed = 0;
+    for v in 0..sheet.tables().stores.len() as u32 {
+        listed = settle(sheet, records, worklist, listed, v);
+    }
+    listed
+}
+
+// The parcels that wait at the paired parcel `u` look through their rows again. Returns how many parcels the worklist
+// then lists.
+fn renew_at<K: Ranking>(
+    sheet: &Sheet<K>,
+    records: &mut [Record],
+    worklist: &mut [u32],
+    mut listed: usize,
+    u: u32,
+) -> usize
+    requires ready { ⌜ Ready atleast (held (now sheet)) (now records) (now worklist) listed ⌝ }
+    requires parcel { ⌜ u < parcels (held (now sheet)) ⌝ }
+    requires paired { ⌜ state (now records) u ≡ 2 ⌝ }
+    ensures ready { λ r. ⌜ Ready atleast (held (now (sheet .entry))) (now (records .exit)) (now (worklist .exit)) r ⌝ }
+    ensures onward { λ r. ⌜ Onward (held (now (sheet .entry))) (now (records .entry)) (now (worklist .entry)) listed (now (records .exit)) (now (worklist .exit)) r ⌝ }
+    ensures none_waits { λ _. ⌜ None-waits-at (held (now (sheet .entry))) (now (records .exit)) u ⌝ }
+{
+    let tables = sheet.tables();
+    for q in tables.starts[u as usize] as usize..tables.starts[u as usize + 1] as usize {
+        let v = tables.others[q];
+        if waits_at(tables, records, v as usize, u as usize) {
+            listed = settle(sheet, records, worklist, listed, v);
+        }
+    }
+    listed
+}
+
+// Goes through the worklist until no parcel waits at one that is paired.
+fn renew_all<K: Ranking>(
+    sheet: &Sheet<K>,
+    records: &mut [Record],
+    worklist: &mut [u32],
+    mut listed: usize,
+)
+    requires ready { ⌜ Ready atleast (held (now sheet)) (now records) (now worklist) listed ⌝ }
+    requires settled { ⌜ All-settled (held (now sheet)) (now records) ⌝ }
+    ensures kept { λ _. ⌜ Kept atleast (held (now (sheet .entry))) (now (records .exit)) ⌝ }
+    ensures settled { λ _. ⌜ All-settled (held (now (sheet .entry))) (now (records .exit)) ⌝ }
+    ensures renewed { λ _. ⌜ All-renewed (held (now (sheet .entry))) (now (records .exit)) ⌝ }
+{
+    let mut next = 0;
+    while next < listed {
+        let u = worklist[next];
+        listed = renew_at(sheet, records, worklist, listed, u);
+        next += 1;
     }
 }

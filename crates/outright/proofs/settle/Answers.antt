@@ -1,9 +1,6 @@
-use mathlib.Core.Path.{_≡_, refl, sym, subst, _∙_}
-use mathlib.Core.Bool.{Bool, true, false, _&&_}
-use Prim.Native.Nat.{ℕ, _-_}
-use lib.Dec.{eqb}
+use mathlib.Core.Path.{refl, sym, subst}
+use Prim.Native.Nat.{_-_}
 use lib.ListN.{set}
-use Rattle.std.proofs.shelf.Tests.{and-parts, and-from, eqb-true, eq-eqb, both-ways}
 use Rattle.sheet.specs.Graph.{row-start, other}
 use Rattle.sheet.specs.View.{graph}
 use Rattle.sheet.specs.Held.{held}
@@ -13,14 +10,8 @@ use Rattle.records.specs.Records.{state, chosen}
 use Rattle.outright.specs.Pointing.{free}
 use Rattle.outright.specs.Settling.{Settles, pairs, waits}
 use Rattle.outright.proofs.Meeting.{Meeting, meeting}
+use Rattle.outright.proofs.Tests.{both-hold, not-both}
 use Rattle.outright.proofs.settle.Needs as need
-
--- what a test of a state and a chosen parcel tells
-both-hold : (a b c d : ℕ) → true ≡ (eqb a b && eqb c d) → (a ≡ b) × (c ≡ d)
-both-hold a b c d e = let parts = and-parts (eqb a b) (eqb c d) (sym e) in (eqb-true a b (parts .0), eqb-true c d (parts .1))
-
-not-both : (a b c d : ℕ) → false ≡ (eqb a b && eqb c d) → a ≡ b → c ≡ d → ⊥
-not-both a b c d e f g = both-ways (eqb a b && eqb c d) (sym e) (and-from (eqb a b) (eqb c d) (eq-eqb a b f) (eq-eqb c d g))
 
 pub waits-at-requires : need.waits-at-requires
 waits-at-requires g c κs =
@@ -29,7 +20,7 @@ waits-at-requires g c κs =
     let work = c .args .worklist .now in
     let met = meeting (g .K·Ranking .atleast) (held sheet) (held-sound sheet) rs work (c .args .listed) (c .args .v) (c .in-Some .p) (c .pre .ready) (c .pre .unpaired) (c .in-Some .ensures tt) in
     let m = subst (λ x. Meeting (graph x) rs work (c .args .listed) (c .args .v) (c .in-Some .p)) (sym (c .tables-tables .ensures)) met in
-    (m .its, (m .row, m .place))
+    (m .reached .its, (m .reached .row, m .reached .place))
 
 pub pair-requires : need.pair-requires
 pair-requires g c κs =
@@ -40,7 +31,7 @@ pair-requires g c κs =
     let m = subst (λ x. Meeting (graph x) rs work (c .args .listed) (c .args .v) (c .in-Some .p)) (sym (c .tables-tables .ensures)) met in
     let t = graph (c .tables-tables .result) in
     let w = other t (c .in-Some .p) in
-    (m .mine, (m .its, (m .apart, m .fits (both-hold (state rs w) 1 (chosen t rs w) (c .args .v) (c .if-waits-at .ensures tt) .0))))
+    (m .mine, (m .reached .its, (m .apart, m .fits (both-hold (state rs w) 1 (chosen t rs w) (c .args .v) (c .if-waits-at .ensures tt) .0))))
 
 pub returns-then-waits-at : need.returns-then-waits-at
 returns-then-waits-at g c =
