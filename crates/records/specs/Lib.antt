@@ -1,1 +1,3 @@
 pub mod Records
+pub mod Right
+pub mod Listed

@@ -1,0 +1,13 @@
+pub mod Core
+pub mod Entries
+pub mod Marks
+pub mod Hear
+pub mod Choose
+pub mod Step
+pub mod Sums
+pub mod Used
+pub mod Holds
+pub mod Tops
+pub mod Greedy
+pub mod Laws
+pub mod Refusals

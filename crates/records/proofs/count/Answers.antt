@@ -1,0 +1,10 @@
+use Rattle.sheet.specs.Held.{held}
+use Rattle.records.proofs.Laws.{pairs-listed}
+use Rattle.records.proofs.count.Needs as need
+
+pub returns : need.returns
+returns g c = record {
+  pairs = c .count-pairs .ensures;
+  lone = c .count-lone .ensures;
+  listed = pairs-listed (held (c .args .sheet .now)) (c .args .records .now);
+}
