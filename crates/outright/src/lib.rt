@@ -6,16 +6,22 @@ ghost use Prim.Native.Nat.{ℕ, _+_, _<_, _≤_};
 ghost use denote.Ref.{now};
 ghost use lib.Dec.{eqb};
 ghost use lib.ListN.{length, set};
+ghost use Rattle.std.specs.declared.result.Result.the-variants.{Ok, Err};
 ghost use Rattle.sheet.specs.Graph.{parcels, entries, fitted};
 ghost use Rattle.sheet.specs.View.{graph};
 ghost use Rattle.sheet.specs.Held.{held};
 ghost use Rattle.choosing.specs.Top.{Choice};
 ghost use Rattle.records.specs.Records.{state, choice as choice-of, chosen-place, chosen};
 ghost use Rattle.outright.specs.Pointing.{unpaired-at, free, Kept};
+ghost use Rattle.outright.specs.Outright.{Refused, Done};
 ghost use Rattle.outright.specs.Settling.{Ready, Settles, Onward, All-settled, None-waits-at, All-renewed};
 use choosing::Candidates;
 use choosing::top_entry;
+use faults::Fault;
+use faults::ROOM;
+use faults::WRONG_LENGTH;
 use ranking::Ranking;
+use records::IDLE;
 use records::LONE;
 use records::PAIRED;
 use records::Record;
@@ -181,4 +187,41 @@ fn renew_all<K: Ranking>(
         listed = renew_at(sheet, records, worklist, listed, u);
         next += 1;
     }
+}
+
+// Puts every record to idle.
+fn make_idle(records: &mut [Record])
+    ensures { λ _. ⌜ ((u : ℕ) → state (now (records .exit)) u ≡ 0) ⌝ }
+{
+    for record in records.iter_mut() {
+        *record = Record {
+            state: IDLE,
+            choice: 0,
+        };
+    }
+}
+
+/// Writes the greedy pairing of the sheet into the records: a paired parcel has state `PAIRED` and the choice of its
+/// partner's entry, a parcel left over state `LONE` and choice 0. What the records held before does not matter.
+///
+/// Refuses a worklist of fewer numbers than there are parcels (3, at 0), and then records that are not one for each
+/// parcel (12, at 0); the tables then stay as they were. After success the worklist holds any numbers.
+pub fn pair_outright<K: Ranking>(
+    sheet: &Sheet<K>,
+    records: &mut [Record],
+    worklist: &mut [u32],
+) -> Result<(), Fault>
+    ensures { λ r. ⌜ elim r [ Ok _ ↦ Done atleast (held (now (sheet .entry))) (now (records .entry)) (now (worklist .entry)) (now (records .exit)) | Err f ↦ Refused (held (now (sheet .entry))) (now (records .entry)) (now (worklist .entry)) (f .0) (f .1) × (now (records .exit) ≡ now (records .entry)) × (now (worklist .exit) ≡ now (worklist .entry)) ] ⌝ }
+{
+    let parcels = sheet.tables().stores.len();
+    if worklist.len() < parcels {
+        return Err((ROOM, 0));
+    }
+    if records.len() != parcels {
+        return Err((WRONG_LENGTH, 0));
+    }
+    make_idle(records);
+    let listed = settle_all(sheet, records, worklist);
+    renew_all(sheet, records, worklist, listed);
+    Ok(())
 }

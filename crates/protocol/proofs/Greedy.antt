@@ -141,9 +141,11 @@ module _ {K : Type 0} (atleast : K → K → Bool) (laws : Lawful atleast) (t : 
   greedy-recorded u v b decided q g is =
       let mine : holds q u ≡ true = subst (λ x. holds x u ≡ true) (sym is) (joint-left u v) in
       ⊎-elim
-      (λ two. (two,
-      joint-other atleast laws t sound alike u (other t (c .at u)) v
-      (stable .apart (pair-at atleast t u (c .at u)) q (recorded-greedy u b two) g (holders-touch (pair-at atleast t u (c .at u)) q u (joint-left u (other t (c .at u))) mine) ∙ is)))
+      (λ two. (
+        two,
+        joint-other atleast laws t sound alike u (other t (c .at u)) v
+            (stable .apart (pair-at atleast t u (c .at u)) q (recorded-greedy u b two) g (holders-touch (pair-at atleast t u (c .at u)) q u (joint-left u (other t (c .at u))) mine) ∙ is),
+      ))
       (λ three. absurd (lone-greedy u b three q g mine)) decided
 
   -- so the pairing is recorded entire

@@ -207,6 +207,7 @@ module _ {K : Type 0} (atleast : K → K → Bool) (laws : Lawful atleast) (t : 
             let a = holds .claims .along n i in
             let f = parcel-facts t (other t (a .place)) (sound .parcel (other t (a .place)) (other-below t sound (a .from) (a .place) (a .within))) in
             ⊎-elim (λ e. subst (λ x. x < t .limit) (ap (λ (x : Note). x .store) (sym e)) (f .stored)) (λ e. subst (λ x. x < t .limit) (ap (λ (x : Note). x .store) (sym e)) (f .stored)) (a .is)
+
         by-next : (o : Option Note) → w .next (n .store) ≡ o → lines.Choice (w .waiting) (n .store) o → Fetch-accepted atleast t w (n .store)
         by-next None e none = absurd (none-has (w .waiting) n i none)
         by-next (Some x) e has =
@@ -250,6 +251,7 @@ module _ {K : Type 0} (atleast : K → K → Bool) (laws : Lawful atleast) (t : 
         some-note : (l : List Note) → ((n : Note) × (n ∈ l)) ⊎ (l ≡ [])
         some-note [] = inr refl
         some-note (n ∷ l) = inl (n, inl refl)
+
         two-left : (s : ℕ) → s ≤ 3 → (s ≡ 0 → ⊥) → (s ≡ 1 → ⊥) → (s ≡ 2) ⊎ (s ≡ 3)
         two-left zero _ n _ = absurd (n refl)
         two-left (suc zero) _ _ n = absurd (n refl)

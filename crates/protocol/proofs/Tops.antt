@@ -112,11 +112,14 @@ module _ {K : Type 0} (atleast : K → K → Bool) (laws : Lawful atleast) (t : 
     pub top-or-none : u < parcels t → ((p : ℕ) × Top atleast t stands u p) ⊎ ((q : ℕ) → In-row t u q → stands q ≡ false)
     top-or-none parcel =
         ⊎-elim
-        (λ (best : Best (places t u)). inl (best .place, record {
-          within = best .within;
-          candidate = best .candidate;
-          over = λ q row s n. sym (row-above atleast laws t sound alike u (best .place) q (best .within) row) ∙ best .tops q (place-in t u parcel q row) s n;
-        }))
+        (λ (best : Best (places t u)). inl (
+          best .place,
+          record {
+            within = best .within;
+            candidate = best .candidate;
+            over = λ q row s n. sym (row-above atleast laws t sound alike u (best .place) q (best .within) row) ∙ best .tops q (place-in t u parcel q row) s n;
+          },
+        ))
         (λ none. inr (λ q row. none q (place-in t u parcel q row)))
         (best-of (places t u) (in-places t u parcel))
 

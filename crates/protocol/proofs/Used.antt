@@ -110,10 +110,16 @@ module _ {K : Type 0} (t : Graph K) where
     -- it newly uses what it drops
     pub drops-used : (before : ℕ → Bool) (st at : ℕ) → ((x : ℕ) → x ∈ places t u → before x ≡ true → used st at m′ x ≡ true) → ((x : ℕ) → before x ≡ true → (open′ m x ≡ false) ⊎ (p ≡ x)) → countBy before (places t u) + length out ≤ countBy (used st at m′) (places t u)
     drops-used before st at stays was =
-        omega (arith, drops-counted, count-two before (λ q. open′ m q && not (eqb q p)) (used st at m′) (places t u)
-        (λ x i. (stays x i,
-        λ h. let k = other-parts x h in struck-used st at m′ x (gone-struck x (in-places t u parcel x i) (k .0) (k .1)),
-        λ b h. let k = other-parts x h in ⊎-elim (λ z. both-ways (open′ m x) z (k .0)) (λ e. k .1 (sym e)) (was x b))))
+        omega (
+          arith,
+          drops-counted,
+          count-two before (λ q. open′ m q && not (eqb q p)) (used st at m′) (places t u)
+              (λ x i. (
+                stays x i,
+                λ h. let k = other-parts x h in struck-used st at m′ x (gone-struck x (in-places t u parcel x i) (k .0) (k .1)),
+                λ b h. let k = other-parts x h in ⊎-elim (λ z. both-ways (open′ m x) z (k .0)) (λ e. k .1 (sym e)) (was x b),
+              )),
+        )
 
     -- and with the entry that it chose, if that was open, one more
     pub all-used : (st at : ℕ) → (eqb st 1 || eqb st 2) ≡ true → at ≡ p → In-row t u p → open′ m p ≡ true → countBy (λ x. not (open′ m x)) (places t u) + (1 + length out) ≤ countBy (used st at m′) (places t u)
@@ -172,8 +178,11 @@ module _ {K : Type 0} (atleast : K → K → Bool) (laws : Lawful atleast) (t : 
   bid-used (hears _ _) =
       let at = row-start t (other t p) + r .choice in
       let m′ = heard t (bid t s p) m in
-      omega (arith, count-in (used (r .state) at m) (used (r .state) at m′) (places t (other t p))
-      (λ x _ h. ⊎-elim (λ z. struck-used (r .state) at m′ x (heard-opens atleast laws t sound alike s p along m long x ∙ z)) (λ k. chosen-used (r .state) at m′ x (k .0) (k .1)) (used-cases (r .state) at m x h)))
+      omega (
+        arith,
+        count-in (used (r .state) at m) (used (r .state) at m′) (places t (other t p))
+            (λ x _ h. ⊎-elim (λ z. struck-used (r .state) at m′ x (heard-opens atleast laws t sound alike s p along m long x ∙ z)) (λ k. chosen-used (r .state) at m′ x (k .0) (k .1)) (used-cases (r .state) at m x h)),
+      )
   bid-used (agrees {m′} {out} _ aw go) =
       let at = row-start t (other t p) + r .choice in
       let m1 = heard t (bid t s p) m in
@@ -194,8 +203,11 @@ module _ {K : Type 0} (atleast : K → K → Bool) (laws : Lawful atleast) (t : 
   drop-used (loses _ _) =
       let at = row-start t (other t p) + r .choice in
       let m′ = dropped t (drop t s p) m in
-      omega (arith, count-in (used (r .state) at m) (used (r .state) at m′) (places t (other t p))
-      (λ x _ h. ⊎-elim (λ z. struck-used (r .state) at m′ x (dropped-struck x z)) (λ k. chosen-used (r .state) at m′ x (k .0) (k .1)) (used-cases (r .state) at m x h)))
+      omega (
+        arith,
+        count-in (used (r .state) at m) (used (r .state) at m′) (places t (other t p))
+            (λ x _ h. ⊎-elim (λ z. struck-used (r .state) at m′ x (dropped-struck x z)) (λ k. chosen-used (r .state) at m′ x (k .0) (k .1)) (used-cases (r .state) at m x h)),
+      )
   drop-used (turns {r′} {m′} {out} _ aw ch) =
       let at = row-start t (other t p) + r .choice in
       let m1 = dropped t (drop t s p) m in
