@@ -2,6 +2,6 @@ pub mod Changes
 pub mod Keeping
 pub mod Advancing
 pub mod Meeting
-pub mod Tests
+pub mod Told
 pub mod Running
 pub mod Finish

@@ -225,3 +225,98 @@ pub fn pair_outright<K: Ranking>(
     renew_all(sheet, records, worklist, listed);
     Ok(())
 }
+
+#[cfg(test)]
+mod tests {
+    use super::*;
+    use ranking::Cents;
+    use ranking::CentsRanking;
+    use ranking::Staged;
+    use ranking::StagedRanking;
+    use records::RecordPartialEq;
+    use std::test::*;
+
+    const LEFT: Record = Record {
+        state: LONE,
+        choice: 0,
+    };
+
+    fn at(choice: u32) -> Record {
+        Record {
+            state: PAIRED,
+            choice,
+        }
+    }
+
+    // Checks the tables, pairs the sheet, and compares the records.
+    fn pairs<K: Ranking>(tables: Tables<K>, wanted: &[Record]) -> Result<(), Fail> {
+        let mut sheet = Sheet::empty();
+        sheet::check(&mut sheet, tables)?;
+        let mut records = [Record {
+            state: 7,
+            choice: 7,
+        }; 4];
+        let mut worklist = [0; 4];
+        let count = wanted.len();
+        check(count <= 4)?;
+        pair_outright(&sheet, &mut records[0..count], &mut worklist)?;
+        for i in 0..count {
+            check(records[i] == wanted[i])?;
+        }
+        Ok(())
+    }
+
+    #[test]
+    fn middle_of_a_path() -> Result<(), Fail> {
+        let tables = Tables {
+            starts: &[0, 1, 3, 5, 6],
+            others: &[1, 0, 2, 1, 3, 2],
+            keys: &[Cents(5), Cents(5), Cents(9), Cents(9), Cents(7), Cents(7)],
+            stores: &[0, 0, 1, 1],
+            editions: &[21, 21, 21, 21],
+            store_count: 2,
+        };
+        pairs(tables, &[LEFT, at(1), at(0), LEFT])
+    }
+
+    #[test]
+    fn larger_numbers_of_a_ring() -> Result<(), Fail> {
+        let tables = Tables {
+            starts: &[0, 2, 4, 6, 8],
+            others: &[1, 3, 0, 2, 1, 3, 0, 2],
+            keys: &[Cents(7); 8],
+            stores: &[0, 0, 0, 0],
+            editions: &[21, 21, 21, 21],
+            store_count: 1,
+        };
+        pairs(tables, &[at(0), at(0), at(1), at(1)])
+    }
+
+    #[test]
+    fn finer_band() -> Result<(), Fail> {
+        let coarse = Staged {
+            band: 3,
+            cents: 900,
+        };
+        let fine = Staged { band: 2, cents: 10 };
+        let tables = Tables {
+            starts: &[0, 1, 3, 4],
+            others: &[1, 0, 2, 1],
+            keys: &[coarse, coarse, fine, fine],
+            stores: &[0, 0, 0],
+            editions: &[21, 21, 21],
+            store_count: 1,
+        };
+        pairs(tables, &[LEFT, at(1), at(0)])
+    }
+
+    #[test]
+    fn refusals() -> Result<(), Fail> {
+        let sheet: Sheet<Cents> = Sheet::empty();
+        let mut records = [LEFT; 1];
+        check(pair_outright(&sheet, &mut records, &mut []) == Err((WRONG_LENGTH, 0)))?;
+        check(records[0] == LEFT)?;
+        pair_outright(&sheet, &mut [], &mut [])?;
+        Ok(())
+    }
+}

@@ -15,7 +15,7 @@ use Rattle.records.specs.Records.{state, chosen}
 use Rattle.records.specs.declared.Record.{Record}
 use Rattle.outright.specs.Settling.{Settles}
 use Rattle.outright.proofs.Meeting.{Reach, reach}
-use Rattle.outright.proofs.Tests.{both-hold, not-both}
+use Rattle.outright.proofs.Told.{both-hold, not-both}
 use Rattle.outright.proofs.Running.{Along, along-passed, along-more, along-all}
 use Rattle.outright.proofs.renew_at.Needs as need
 use Rattle.outright.proofs.renew_at.Needs.{then-waits-at, else-waits-at}

@@ -10,7 +10,7 @@ use Rattle.records.specs.Records.{state, chosen}
 use Rattle.outright.specs.Pointing.{free}
 use Rattle.outright.specs.Settling.{Settles, pairs, waits}
 use Rattle.outright.proofs.Meeting.{Meeting, meeting}
-use Rattle.outright.proofs.Tests.{both-hold, not-both}
+use Rattle.outright.proofs.Told.{both-hold, not-both}
 use Rattle.outright.proofs.settle.Needs as need
 
 pub waits-at-requires : need.waits-at-requires
