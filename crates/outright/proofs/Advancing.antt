@@ -18,7 +18,7 @@ use Rattle.pairing.proofs.Entries.{other-below, other-not-own}
 use Rattle.records.specs.Records.{record-of, state, choice, chosen}
 use Rattle.records.specs.declared.Record.{Record}
 use Rattle.outright.specs.Pointing.{Settled, Kept}
-use Rattle.outright.specs.Settling.{paired-count, Listing, Settles, stays-lone, waits, pairs, Onward}
+use Rattle.outright.specs.Settling.{paired-count, Listing, Ready, Settles, stays-lone, waits, pairs, Onward}
 use Rattle.outright.proofs.Changes.{Now, same, lone, waiting, paired, settles-now}
 use Rattle.outright.proofs.Keeping.{kept-now, still-paired}
 
@@ -47,42 +47,61 @@ room rs v w v-less w-less apart v-free w-free =
     omega (arith, a, b, countBy-le-length (λ (x : Record). eqb (x .state) 2) (set first w r), length-set first w r, length-set rs v r)
 
 module _ {K : Type 0} (atleast : K → K → Bool) (laws : Lawful atleast) (t : Graph K) (sound : Sound t) (v : ℕ) (parcel : v < parcels t)
-    (rs : List Record) (work : List ℕ) (k : ℕ) (kept : Kept atleast t rs) (unpaired : state rs v ≡ 2 → ⊥) (listing : Listing rs work k) (enough : parcels t ≤ length work)
+    (rs : List Record) (work : List ℕ) (k : ℕ) (ready : Ready atleast t rs work k) (unpaired : state rs v ≡ 2 → ⊥)
     (rs′ : List Record) (work′ : List ℕ) (k′ : ℕ) (settles : Settles atleast t v rs work k rs′ work′ k′) where
+  kept : Kept atleast t rs
+  kept = ready .kept
+
+  listing : Listing rs work k
+  listing = ready .listing
+
+  enough : parcels t ≤ length work
+  enough = ready .room
+
   now : (x : ℕ) → Now atleast t v rs rs′ x
   now = settles-now atleast t sound rs kept v parcel unpaired work k rs′ work′ k′ settles
 
   long : length rs′ ≡ length rs
   long = settles-long atleast t v rs work k rs′ work′ k′ settles
 
-  pub settles-kept : Kept atleast t rs′
+  settles-kept : Kept atleast t rs′
   settles-kept = kept-now atleast laws t sound rs kept v rs′ long now
 
   -- v has settled
   pub settles-self : Settled rs′ v
-  settles-self = elim (now v) [ same n _ ↦ absurd (n refl) | lone _ three _ _ ↦ inr three | waiting _ _ one _ _ _ ↦ inl (inl one) | paired _ two _ _ ↦ inl (inr two) ]
+  settles-self = elim (now v) [ same n _ ↦ absurd (n refl) | lone _ _ three _ _ ↦ inr three | waiting _ _ one _ _ _ ↦ inl (inl one) | paired _ _ two _ _ ↦ inl (inr two) ]
 
   -- and does not wait at a parcel that was paired before
   pub leaves : state rs′ v ≡ 1 → state rs (chosen t rs′ v) ≡ 2 → ⊥
   leaves one two =
-      elim (now v) [ same n _ ↦ n refl | lone _ three _ _ ↦ omega (arith, one, three) | waiting _ _ _ _ n _ ↦ n two | paired _ also _ _ ↦ omega (arith, one, also) ]
+      elim (now v) [ same n _ ↦ n refl | lone _ _ three _ _ ↦ omega (arith, one, three) | waiting _ _ _ _ n _ ↦ n two | paired _ _ also _ _ ↦ omega (arith, one, also) ]
 
   settled-on : (u : ℕ) → Settled rs u → Settled rs′ u
   settled-on u was =
       elim (now u) [
         | same _ e ↦ subst (λ (r : Record). ((r .state ≡ 1) ⊎ (r .state ≡ 2)) ⊎ (r .state ≡ 3)) (sym e) was
-        | lone _ three _ _ ↦ inr three
+        | lone _ _ three _ _ ↦ inr three
         | waiting _ _ one _ _ _ ↦ inl (inl one)
-        | paired _ two _ _ ↦ inl (inr two)
+        | paired _ _ two _ _ ↦ inl (inr two)
       ]
 
   no-new-on : (u : ℕ) → state rs′ u ≡ 1 → state rs (chosen t rs′ u) ≡ 2 → (state rs u ≡ 1) × (chosen t rs u ≡ chosen t rs′ u)
   no-new-on u one two =
       elim (now u) [
         | same _ e ↦ (ap (λ (r : Record). r .state) (sym e) ∙ one, ap (λ (r : Record). other t (row-start t u + r .choice)) (sym e))
-        | lone _ three _ _ ↦ absurd (omega (arith, one, three))
+        | lone _ _ three _ _ ↦ absurd (omega (arith, one, three))
         | waiting _ _ _ _ n _ ↦ absurd (n two)
-        | paired _ also _ _ ↦ absurd (omega (arith, one, also))
+        | paired _ _ also _ _ ↦ absurd (omega (arith, one, also))
+      ]
+
+  -- who has not begun has not begun after it
+  pub stays-idle : (x : ℕ) → (x ≡ v → ⊥) → state rs x ≡ 0 → state rs′ x ≡ 0
+  stays-idle x n zero =
+      elim (now x) [
+        | same _ e ↦ ap (λ (r : Record). r .state) e ∙ zero
+        | lone _ is _ _ _ ↦ absurd (n is)
+        | waiting _ is _ _ _ _ ↦ absurd (n is)
+        | paired _ was _ _ _ ↦ absurd (⊎-elim n (λ one. omega (arith, one, zero)) was)
       ]
 
   -- the worklist after the settling
@@ -164,11 +183,11 @@ module _ {K : Type 0} (atleast : K → K → Bool) (laws : Lawful atleast) (t : 
       two-more (other t p) (record { state = 2; choice = p - row-start t v }) (record { state = 2; choice = choice rs (other t p) })
       (omega (arith, kept .long, other-below t sound v p (top .within))) (λ e. other-not-own t sound v p (top .within) (sym e)) (λ two. omega (arith, two, waited)) refl refl is work-is k-is
 
-  pub settles-listing : Listing rs′ work′ k′
+  settles-listing : Listing rs′ work′ k′
   settles-listing = works settles .next
 
-  pub settles-work-long : length work′ ≡ length work
-  settles-work-long = works settles .as-long
+  pub settles-ready : Ready atleast t rs′ work′ k′
+  settles-ready = record { kept = settles-kept; listing = settles-listing; room = omega (arith, works settles .as-long, enough) }
 
   pub settles-onward : Onward t rs work k rs′ work′ k′
   settles-onward = record {

@@ -46,10 +46,10 @@ module _ {K : Type 0} (atleast : K → K → Bool) (t : Graph K) where
   -- what has become of parcel x: nothing; it was found lone; it waits at its best entry; or it is paired there
   pub data Now (v : ℕ) (rs rs′ : List Record) (x : ℕ) : Type 0 where
     same : (x ≡ v → ⊥) → record-of rs′ x ≡ record-of rs x → Now v rs rs′ x
-    lone : (state rs x ≡ 2 → ⊥) → state rs′ x ≡ 3 → choice rs′ x ≡ 0 → ((q : ℕ) → In-row t x q → state rs (other t q) ≡ 2) → Now v rs rs′ x
+    lone : (state rs x ≡ 2 → ⊥) → x ≡ v → state rs′ x ≡ 3 → choice rs′ x ≡ 0 → ((q : ℕ) → In-row t x q → state rs (other t q) ≡ 2) → Now v rs rs′ x
     waiting : (state rs x ≡ 2 → ⊥) → x ≡ v → state rs′ x ≡ 1 → Best atleast t rs x (chosen-place t rs′ x) → (state rs (chosen t rs′ x) ≡ 2 → ⊥)
         → (state rs (chosen t rs′ x) ≡ 1 → chosen t rs (chosen t rs′ x) ≡ x → ⊥) → Now v rs rs′ x
-    paired : (state rs x ≡ 2 → ⊥) → state rs′ x ≡ 2 → Best atleast t rs x (chosen-place t rs′ x) → Records-pair t rs′ (chosen t rs′ x) x → Now v rs rs′ x
+    paired : (state rs x ≡ 2 → ⊥) → (x ≡ v) ⊎ (state rs x ≡ 1) → state rs′ x ≡ 2 → Best atleast t rs x (chosen-place t rs′ x) → Records-pair t rs′ (chosen t rs′ x) x → Now v rs rs′ x
 
 module _ {K : Type 0} (atleast : K → K → Bool) (t : Graph K) (sound : Sound t) (rs : List Record) (kept : Kept atleast t rs) (v : ℕ) (parcel : v < parcels t) (unpaired : state rs v ≡ 2 → ⊥) where
   -- the place of a choice that was made at p
@@ -60,7 +60,7 @@ module _ {K : Type 0} (atleast : K → K → Bool) (t : Graph K) (sound : Sound 
   lone-now rs′ o none x =
       ⊎-elim
       (λ e. let is : record-of rs′ x ≡ record { state = 3; choice = 0 } = ap (record-of rs′) e ∙ o .mine in
-      lone (λ two. unpaired (ap (state rs) (sym e) ∙ two)) (ap (λ (r : Record). r .state) is) (ap (λ (r : Record). r .choice) is) (subst (λ y. (q : ℕ) → In-row t y q → state rs (other t q) ≡ 2) (sym e) (all-taken t sound rs v none)))
+      lone (λ two. unpaired (ap (state rs) (sym e) ∙ two)) e (ap (λ (r : Record). r .state) is) (ap (λ (r : Record). r .choice) is) (subst (λ y. (q : ℕ) → In-row t y q → state rs (other t q) ≡ 2) (sym e) (all-taken t sound rs v none)))
       (λ n. same n (o .theirs x n)) (cases-eq x v)
 
   waits-now : (rs′ : List Record) (p : ℕ) → One v (record { state = 1; choice = p - row-start t v }) rs rs′ → Top atleast t (free t rs) v p
@@ -89,8 +89,8 @@ module _ {K : Type 0} (atleast : K → K → Bool) (t : Graph K) (sound : Sound 
       let records-w : Records-pair t rs′ w v = record { parcel = below; paired = two-w; within = omega (arith, place-w, held .within .to); with′ = chosen-w } in
       let records-v : Records-pair t rs′ v w = record { parcel = parcel; paired = two-v; within = omega (arith, place-v, top .within .to); with′ = chosen-v } in
       let at-v : Now atleast t v rs rs′ v =
-      paired unpaired two-v (subst (Best atleast t rs v) (sym place-v) (top-best t sound rs atleast v p top)) (subst (λ y. Records-pair t rs′ y v) (sym chosen-v) records-w) in
-      let at-w : Now atleast t v rs rs′ w = paired (λ two. omega (arith, two, waited)) two-w (subst (Best atleast t rs w) (sym place-w) held) (subst (λ y. Records-pair t rs′ y w) (sym chosen-w) records-v) in
+      paired unpaired (inl refl) two-v (subst (Best atleast t rs v) (sym place-v) (top-best t sound rs atleast v p top)) (subst (λ y. Records-pair t rs′ y v) (sym chosen-v) records-w) in
+      let at-w : Now atleast t v rs rs′ w = paired (λ two. omega (arith, two, waited)) (inr waited) two-w (subst (Best atleast t rs w) (sym place-w) held) (subst (λ y. Records-pair t rs′ y w) (sym chosen-w) records-v) in
       ⊎-elim (λ e. subst (Now atleast t v rs rs′) (sym e) at-v) (λ n. ⊎-elim (λ e. subst (Now atleast t v rs rs′) (sym e) at-w) (λ m. same n (theirs x n m)) (cases-eq x w)) (cases-eq x v)
 
   -- each parcel is as a settling leaves it

@@ -57,7 +57,7 @@ module _ {K : Type 0} (atleast : K → K → Bool) (laws : Lawful atleast) (t : 
   module _ (v : ℕ) (rs′ : List Record) (long : length rs′ ≡ length rs) (now : (x : ℕ) → Now atleast t v rs rs′ x) where
     -- the record of a paired parcel stays
     pub stays : (x : ℕ) → state rs x ≡ 2 → record-of rs′ x ≡ record-of rs x
-    stays x two = elim (now x) [ same _ e ↦ e | lone n _ _ _ ↦ absurd (n two) | waiting n _ _ _ _ _ ↦ absurd (n two) | paired n _ _ _ ↦ absurd (n two) ]
+    stays x two = elim (now x) [ same _ e ↦ e | lone n _ _ _ _ ↦ absurd (n two) | waiting n _ _ _ _ _ ↦ absurd (n two) | paired n _ _ _ _ ↦ absurd (n two) ]
 
     pub still-paired : (x : ℕ) → state rs x ≡ 2 → state rs′ x ≡ 2
     still-paired x two = ap (λ (r : Record). r .state) (stays x two) ∙ two
@@ -76,9 +76,9 @@ module _ {K : Type 0} (atleast : K → K → Bool) (laws : Lawful atleast) (t : 
               let f : (r : Record) → ℕ = λ r. r .state in
               let was : Points rs u = ⊎-elim (λ one. inl (ap f (sym e) ∙ one)) (λ two. inr (ap f (sym e) ∙ two)) points in
               subst (Best atleast t rs u) (ap (λ (r : Record). row-start t u + r .choice) (sym e)) (kept .best u less was)
-          | lone _ three _ _ ↦ absurd (⊎-elim (λ one. omega (arith, one, three)) (λ two. omega (arith, two, three)) points)
+          | lone _ _ three _ _ ↦ absurd (⊎-elim (λ one. omega (arith, one, three)) (λ two. omega (arith, two, three)) points)
           | waiting _ _ _ best _ _ ↦ best
-          | paired _ _ best _ ↦ best
+          | paired _ _ _ best _ ↦ best
         ])
 
     bare-now : (u : ℕ) → u < parcels t → state rs′ u ≡ 3 → Bare t rs′ u
@@ -87,9 +87,9 @@ module _ {K : Type 0} (atleast : K → K → Bool) (laws : Lawful atleast) (t : 
           | same _ e ↦
               let was = kept .bare u less (ap (λ (r : Record). r .state) (sym e) ∙ three) in
               record { none = ap (λ (r : Record). r .choice) e ∙ was .none; taken = λ q there. still-paired (other t q) (was .taken q there) }
-          | lone _ _ zero taken ↦ record { none = zero; taken = λ q there. still-paired (other t q) (taken q there) }
+          | lone _ _ _ zero taken ↦ record { none = zero; taken = λ q there. still-paired (other t q) (taken q there) }
           | waiting _ _ one _ _ _ ↦ absurd (omega (arith, one, three))
-          | paired _ two _ _ ↦ absurd (omega (arith, two, three))
+          | paired _ _ two _ _ ↦ absurd (omega (arith, two, three))
         ]
 
     -- a recorded pair stays recorded
@@ -104,9 +104,9 @@ module _ {K : Type 0} (atleast : K → K → Bool) (laws : Lawful atleast) (t : 
           | same _ e ↦
               let chosen-is : chosen t rs′ u ≡ chosen t rs u = ap (λ (r : Record). other t (row-start t u + r .choice)) e in
               subst (λ y. Records-pair t rs′ y u) (sym chosen-is) (records-on (chosen t rs u) u (kept .both u less (ap (λ (r : Record). r .state) (sym e) ∙ two)))
-          | lone _ three _ _ ↦ absurd (omega (arith, two, three))
+          | lone _ _ three _ _ ↦ absurd (omega (arith, two, three))
           | waiting _ _ one _ _ _ ↦ absurd (omega (arith, one, two))
-          | paired _ _ _ r ↦ r
+          | paired _ _ _ _ r ↦ r
         ]
 
     answered-on : (u q : ℕ) → Answered atleast t rs u q → Answered atleast t rs′ u q
@@ -121,9 +121,9 @@ module _ {K : Type 0} (atleast : K → K → Bool) (laws : Lawful atleast) (t : 
           | same _ e ↦
               let place : chosen-place t rs′ u ≡ chosen-place t rs u = ap (λ (r : Record). row-start t u + r .choice) e in
               kept .answered u q there (ap (λ (r : Record). r .state) (sym e) ∙ two) (subst (λ p. entry-above atleast t q p ≡ true) place over)
-          | lone _ three _ _ ↦ absurd (omega (arith, two, three))
+          | lone _ _ three _ _ ↦ absurd (omega (arith, two, three))
           | waiting _ _ one _ _ _ ↦ absurd (omega (arith, one, two))
-          | paired n _ best _ ↦ answers u (chosen-place t rs′ u) q best n there over
+          | paired n _ _ best _ ↦ answers u (chosen-place t rs′ u) q best n there over
         ])
 
     -- a parcel that newly waits is not waited for by the one that it points at
@@ -131,9 +131,9 @@ module _ {K : Type 0} (atleast : K → K → Bool) (laws : Lawful atleast) (t : 
     unmet-new x y less one back there unmet is best =
         elim (now y) [
           | same _ e ↦ unmet (ap (λ (r : Record). r .state) (sym e) ∙ one) (ap (λ (r : Record). other t (row-start t y + r .choice)) (sym e) ∙ back)
-          | lone _ three _ _ ↦ omega (arith, one, three)
+          | lone _ _ three _ _ ↦ omega (arith, one, three)
           | waiting _ too _ _ _ _ ↦ other-not-own t sound x (chosen-place t rs′ x) (best .within) (there ∙ too ∙ sym is)
-          | paired _ two _ _ ↦ omega (arith, one, two)
+          | paired _ _ two _ _ ↦ omega (arith, one, two)
         ]
 
     unmet-now : (u : ℕ) → u < parcels t → state rs′ u ≡ 1 → state rs′ (chosen t rs′ u) ≡ 1 → chosen t rs′ (chosen t rs′ u) ≡ u → ⊥
@@ -149,13 +149,13 @@ module _ {K : Type 0} (atleast : K → K → Bool) (laws : Lawful atleast) (t : 
                     let y-was : state rs y ≡ 1 = ap (λ (r : Record). r .state) (sym f) ∙ too in
                     let y-back : chosen t rs y ≡ u = ap (λ (r : Record). other t (row-start t y + r .choice)) (sym f) ∙ back in
                     kept .unmet u less was (ap (state rs) chosen-is ∙ y-was) (ap (chosen t rs) chosen-is ∙ y-back)
-                | lone _ three _ _ ↦ omega (arith, too, three)
+                | lone _ _ three _ _ ↦ omega (arith, too, three)
                 | waiting _ is _ best _ unmet ↦ unmet (ap (state rs) back ∙ was) (ap (chosen t rs) back ∙ chosen-is)
-                | paired _ two _ _ ↦ omega (arith, too, two)
+                | paired _ _ two _ _ ↦ omega (arith, too, two)
               ]
-          | lone _ three _ _ ↦ omega (arith, one, three)
+          | lone _ _ three _ _ ↦ omega (arith, one, three)
           | waiting _ is _ best _ unmet ↦ unmet-new u y less too back refl unmet is best
-          | paired _ two _ _ ↦ omega (arith, one, two)
+          | paired _ _ two _ _ ↦ omega (arith, one, two)
         ]
 
     pub kept-now : Kept atleast t rs′

@@ -10,7 +10,7 @@ use Rattle.sheet.specs.Graph.{Graph, parcels, row-start, other, In-row}
 use Rattle.choosing.specs.Top.{Top}
 use Rattle.records.specs.Records.{state, choice, chosen}
 use Rattle.records.specs.declared.Record.{Record}
-use Rattle.outright.specs.Pointing.{free, Settled}
+use Rattle.outright.specs.Pointing.{free, Settled, Kept}
 
 -- how many parcels are paired
 abbrev pub paired-count : List Record → ℕ
@@ -21,6 +21,12 @@ pub record Listing (rs : List Record) (work : List ℕ) (k : ℕ) : Type 0 where
   pub counted : k ≡ paired-count rs
   pub only : (i : ℕ) → i < k → state rs (getD work i 0) ≡ 2
   pub each : (u : ℕ) → state rs u ≡ 2 → (i : ℕ) × (i < k) × (getD work i 0 ≡ u)
+
+-- a worklist with room for every parcel lists the paired ones, and the records are kept right
+pub record Ready {K : Type 0} (atleast : K → K → Bool) (t : Graph K) (rs : List Record) (work : List ℕ) (k : ℕ) : Type 0 where
+  pub kept : Kept atleast t rs
+  pub listing : Listing rs work k
+  pub room : parcels t ≤ length work
 
 module _ {K : Type 0} (atleast : K → K → Bool) (t : Graph K) (v : ℕ) where
   -- v has settled: lone, waiting at the best free entry, or paired there with a parcel that waited for v; the two are then put on the worklist
@@ -40,3 +46,15 @@ pub record Onward {K : Type 0} (t : Graph K) (rs : List Record) (work : List ℕ
   pub paired : (u : ℕ) → state rs u ≡ 2 → state rs′ u ≡ 2
   -- who waits at a parcel that was paired before, waited there before
   pub no-new : (u : ℕ) → state rs′ u ≡ 1 → state rs (chosen t rs′ u) ≡ 2 → (state rs u ≡ 1) × (chosen t rs u ≡ chosen t rs′ u)
+
+-- every parcel has settled
+abbrev pub All-settled : {K : Type 0} → Graph K → List Record → Type 0
+All-settled t rs = (u : ℕ) → u < parcels t → Settled rs u
+
+-- no parcel waits at u
+abbrev pub None-waits-at : {K : Type 0} → Graph K → List Record → ℕ → Type 0
+None-waits-at t rs u = (x : ℕ) → x < parcels t → state rs x ≡ 1 → chosen t rs x ≡ u → ⊥
+
+-- no parcel waits at one that is paired
+abbrev pub All-renewed : {K : Type 0} → Graph K → List Record → Type 0
+All-renewed t rs = (u : ℕ) → state rs u ≡ 2 → None-waits-at t rs u
