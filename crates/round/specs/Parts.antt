@@ -2,17 +2,19 @@
 use mathlib.Core.Path.{_≡_}
 use mathlib.Core.Bool.{Bool, true, false, _&&_}
 use mathlib.Core.List.{List, _∷_, _++_}
-use Prim.Native.Nat.{ℕ, _+_, _≤_, _<_}
+use Prim.Native.Nat.{ℕ, _+_, _-_, _≤_, _<_}
 use lib.Dec.{eqb}
 use lib.ListN.{length, getD, set}
+use Rattle.std.specs.declared.option.Option.{Option}
+use Rattle.std.specs.declared.option.Option.the-variants.{Some, None}
 use Rattle.std.specs.shelf.Sorted.{Shuffled}
 use Rattle.line.specs.declared.Note.{Note}
 use Rattle.records.specs.declared.Record.{Record}
 use Rattle.sheet.specs.Graph.{Graph, In-row, parcels, entries}
 use Rattle.choosing.specs.Top.{Top}
 use Rattle.protocol.specs.Marks.{open′, bidden, open-others, drop, strike}
-use Rattle.protocol.specs.Steps.{Lets-go, Chooses}
-use Rattle.protocol.specs.Turns.{counted}
+use Rattle.protocol.specs.Steps.{Lets-go, Chooses, Receives, entry-of}
+use Rattle.protocol.specs.Turns.{counted, stray}
 use Rattle.round.specs.declared.state.Round.{Round}
 use Rattle.round.specs.declared.choose.Plan.{Plan}
 use Rattle.round.specs.declared.choose.Plan.the-variants.{Alone, Waits, Pairs}
@@ -59,3 +61,31 @@ pub record Counted (before after : Round) (sent : ℕ) : Type 0 where
   pub stores : after .stores ≡ before .stores
   pub turns : after .turns ≡ counted (before .turns) 1
   pub sent′ : after .sent ≡ counted (before .sent) sent
+
+-- the addressee's entry for the sender, if a note can come to store s
+abbrev pub Comes-to : {K : Type 0} → (K → K → Bool) → Graph K → ℕ → Note → Option ℕ → Type 0
+Comes-to atleast t s n None = stray atleast t s n ≡ true
+Comes-to atleast t s n (Some p) = (stray atleast t s n ≡ false) × (p ≡ entry-of t n)
+
+-- the note was taken and received, and what that sent is on the line
+pub record Took {K : Type 0} (atleast : K → K → Bool) (t : Graph K) (n : Note) (r : Record) (m : List ℕ) (r′ : Record) (m′ : List ℕ) (before after : List Note) (free count : ℕ) : Type 0 where
+  pub rest : List Note
+  pub taken : Shuffled (n ∷ rest) before
+  pub out : List Note
+  pub receives : Receives atleast t n r m r′ m′ out
+  pub put : Shuffled (out ++ rest) after
+  pub many : length out ≡ count
+  pub room : count ≤ free + 1
+
+-- to receive the note would send more than there is room for
+pub record Too-many {K : Type 0} (atleast : K → K → Bool) (t : Graph K) (n : Note) (r : Record) (m : List ℕ) (free : ℕ) : Type 0 where
+  pub record′ : Record
+  pub marks′ : List ℕ
+  pub out : List Note
+  pub receives : Receives atleast t n r m record′ marks′ out
+  pub over : free + 1 < length out
+
+-- what receiving a note answers: the addressee's record and how many notes it sent; or nothing, and then nothing changed
+abbrev pub Received : {K L : Type 0} → (K → K → Bool) → Graph K → (L → List Note) → (L → ℕ) → Note → Record → Option (Record × ℕ) → List ℕ → List ℕ → L → L → Type 0
+Received atleast t waiting capacity n r None m m′ line line′ = Too-many atleast t n r m (capacity line - length (waiting line)) × (m′ ≡ m) × (line′ ≡ line)
+Received atleast t waiting capacity n r (Some x) m m′ line line′ = Took atleast t n r m (x .0) m′ (waiting line) (waiting line′) (capacity line - length (waiting line)) (x .1) × (capacity line′ ≡ capacity line)

@@ -53,7 +53,7 @@ pub(crate) enum Plan {
 }
 
 // The places of a parcel's row: from the first up to, not including, the second.
-fn row<K: Copy>(sheet: &Sheet<K>, u: usize) -> (usize, usize)
+pub(crate) fn row<K: Copy>(sheet: &Sheet<K>, u: usize) -> (usize, usize)
     requires { ⌜ u < parcels (held (now sheet)) ⌝ }
     ensures { λ r. ⌜ (r .0 ≡ row-start (held (now (sheet .entry))) u) × (r .1 ≡ row-end (held (now (sheet .entry))) u) ⌝ }
 {
@@ -183,7 +183,7 @@ pub(crate) fn sending(plan: &Plan) -> u32
 }
 
 // The record of a parcel of this state that chose the entry at place `p` of its row.
-fn with_choice<K: Copy>(sheet: &Sheet<K>, state: u8, u: usize, p: usize) -> Record
+pub(crate) fn with_choice<K: Copy>(sheet: &Sheet<K>, state: u8, u: usize, p: usize) -> Record
     requires { ⌜ In-row (held (now sheet)) u p ⌝ }
     ensures { λ r. ⌜ r ≡ with-choice (held (now (sheet .entry))) state u p ⌝ }
 {

@@ -1,5 +1,6 @@
 //! A round between stores: open, start, fetch and close.
 mod choose;
+mod fetching;
 mod starting;
 mod state;
 

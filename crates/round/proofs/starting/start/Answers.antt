@@ -56,7 +56,7 @@ carry-out-requires g c κs =
       parcel = below;
       long = facts .marks-long;
       planned = c .plan-choice-plan .ensures;
-      room = omega (arith, c .sending-count .ensures, c .free .ensures, c .if-count-free .left, g .L·Line·met .lawful (c .args .line .now) .within);
+      room = omega (arith, c .sending-count .ensures, c .free .ensures, c .if-count-free .left, g .L·Line .lawful (c .args .line .now) .within);
     }
 
 pub returns : need.returns
