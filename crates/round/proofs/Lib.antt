@@ -2,3 +2,4 @@ pub mod Rows
 pub mod Sizes
 pub mod Going
 pub mod Carried
+pub mod Receipt
