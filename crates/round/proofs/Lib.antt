@@ -3,3 +3,5 @@ pub mod Sizes
 pub mod Going
 pub mod Carried
 pub mod Receipt
+pub mod Coming
+pub mod Handed

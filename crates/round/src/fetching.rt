@@ -26,9 +26,9 @@ use crate::starting::fits_sheet;
 use crate::state::Round;
 use faults::ASTRAY;
 use faults::Fault;
-use faults::NOTHING_WAITS;
 use faults::NO_ROOM;
 use faults::NO_STORE;
+use faults::NOTHING_WAITS;
 use faults::STRAY_NOTE;
 use faults::WRONG_LENGTH;
 use line::BID;
@@ -75,7 +75,14 @@ fn take_sure<L: Line>(line: &mut L, note: Note)
 
 // The addressee receives a bid: its entry for the sender is marked, and if it waits with that choice, it pairs there.
 // No answer, and nothing altered, where there is no room for what that sends.
-fn receive_bid<K: Ranking, L: Line>(sheet: &Sheet<K>, marks: &mut [u8], line: &mut L, note: Note, at: usize, was: Record) -> Option<(Record, u32)>
+fn receive_bid<K: Ranking, L: Line>(
+    sheet: &Sheet<K>,
+    marks: &mut [u8],
+    line: &mut L,
+    note: Note,
+    at: usize,
+    was: Record,
+) -> Option<(Record, u32)>
     requires kind { ⌜ note .kind ≡ 1 ⌝ }
     requires within { ⌜ In-row (held (now sheet)) (note .addressee) at ⌝ }
     requires entry { ⌜ at ≡ entry-of (held (now sheet)) note ⌝ }
@@ -101,7 +108,14 @@ fn receive_bid<K: Ranking, L: Line>(sheet: &Sheet<K>, marks: &mut [u8], line: &m
 
 // The addressee receives a drop: its entry for the sender is struck, and if it waits with that choice, it chooses.
 // No answer, and nothing altered, where there is no room for what that sends.
-fn receive_drop<K: Ranking, L: Line>(sheet: &Sheet<K>, marks: &mut [u8], line: &mut L, note: Note, at: usize, was: Record) -> Option<(Record, u32)>
+fn receive_drop<K: Ranking, L: Line>(
+    sheet: &Sheet<K>,
+    marks: &mut [u8],
+    line: &mut L,
+    note: Note,
+    at: usize,
+    was: Record,
+) -> Option<(Record, u32)>
     requires kind { ⌜ note .kind ≡ 2 ⌝ }
     requires within { ⌜ In-row (held (now sheet)) (note .addressee) at ⌝ }
     requires entry { ⌜ at ≡ entry-of (held (now sheet)) note ⌝ }
@@ -124,4 +138,68 @@ fn receive_drop<K: Ranking, L: Line>(sheet: &Sheet<K>, marks: &mut [u8], line: &
     }
     take_sure(line, note);
     Some((carry_out(sheet, marks, line, a, plan), count))
+}
+
+// The addressee receives a note.
+fn receive<K: Ranking, L: Line>(
+    sheet: &Sheet<K>,
+    marks: &mut [u8],
+    line: &mut L,
+    note: Note,
+    at: usize,
+    was: Record,
+) -> Option<(Record, u32)>
+    requires comes { ⌜ stray (K·Ranking .atleast) (held (now sheet)) (note .store) note ≡ false ⌝ }
+    requires entry { ⌜ at ≡ entry-of (held (now sheet)) note ⌝ }
+    requires long { ⌜ length (now marks) ≡ entries (held (now sheet)) ⌝ }
+    requires handed { ⌜ L·Line .chosen (now line) (note .store) ≡ Some note ⌝ }
+    ensures { λ r. ⌜ Received (K·Ranking .atleast) (held (now (sheet .entry))) (L·Line .waiting) (L·Line .capacity) note was r (now (marks .entry)) (now (marks .exit)) (now (line .entry)) (now (line .exit)) ⌝ }
+{
+    if note.kind == BID {
+        receive_bid(sheet, marks, line, note, at, was)
+    } else {
+        receive_drop(sheet, marks, line, note, at, was)
+    }
+}
+
+/// Fetches the next note for a store: its addressee receives it.
+///
+/// Refuses, and then alters nothing, the note that was next included: a store that the sheet does not have (10, at the
+/// store), tables or a sheet of other sizes than the round's (12, at 0), a store that nothing waits for (14) or whose
+/// next note cannot come to it (15), each at the store, an addressee whose record is out of range (16), and a turn that
+/// would send more notes than are free once the note is taken (17), each at the addressee.
+pub fn fetch<K: Ranking, L: Line>(
+    round: &mut Round,
+    sheet: &Sheet<K>,
+    records: &mut [Record],
+    marks: &mut [u8],
+    line: &mut L,
+    store: u32,
+) -> Result<(), Fault>
+    ensures { λ r. ⌜ Fetch (K·Ranking .atleast) (held (now (sheet .entry))) store r (world (L·Line .waiting) (L·Line .capacity) (L·Line .chosen) (now (round .entry)) (now (records .entry)) (now (marks .entry)) (now (line .entry))) (world (L·Line .waiting) (L·Line .capacity) (L·Line .chosen) (now (round .exit)) (now (records .exit)) (now (marks .exit)) (now (line .exit))) ⌝ }
+{
+    if store >= sheet.tables().store_count {
+        return Err((NO_STORE, store));
+    }
+    if !fits_sheet(round, sheet, records, marks) {
+        return Err((WRONG_LENGTH, 0));
+    }
+    let Some(note) = line.next(store) else {
+        return Err((NOTHING_WAITS, store));
+    };
+    let Some(at) = entry_for(sheet, store, note) else {
+        return Err((STRAY_NOTE, store));
+    };
+    let a = note.addressee as usize;
+    let strays = record_strays(sheet, records, a).unwrap_or(true);
+    if strays {
+        return Err((ASTRAY, note.addressee));
+    }
+    let was = records[a];
+    let Some((now_is, sent)) = receive(sheet, marks, line, note, at, was) else {
+        return Err((NO_ROOM, note.addressee));
+    };
+    records[a] = now_is;
+    count_turn(round, sent);
+    Ok(())
 }

@@ -6,5 +6,6 @@ mod state;
 
 pub use choose::BIDDEN;
 pub use choose::STRUCK;
+pub use fetching::fetch;
 pub use starting::start;
 pub use state::Round;

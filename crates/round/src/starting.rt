@@ -22,7 +22,12 @@ use records::Record;
 use sheet::Sheet;
 
 // Whether the tables have the sheet's lengths, and the round its sizes.
-pub(crate) fn fits_sheet<K: Copy>(round: &Round, sheet: &Sheet<K>, records: &[Record], marks: &[u8]) -> bool
+pub(crate) fn fits_sheet<K: Copy>(
+    round: &Round,
+    sheet: &Sheet<K>,
+    records: &[Record],
+    marks: &[u8],
+) -> bool
     ensures { λ r. ⌜ r ≡ tables-fit (held (now (sheet .entry))) (now (round .entry)) (now (records .entry)) (now (marks .entry)) ⌝ }
 {
     let tables = sheet.tables();

@@ -10,9 +10,10 @@ use Rattle.round.proofs.fetching.receive_bid.Needs as need
 pub returns-then-not-awaits : need.returns-then-not-awaits
 returns-then-not-awaits g c =
     let s = c .args .sheet .now in
-    let line = g .L·Line in
-    (took-hears (g .K·Ranking .atleast) (held s) (held-sound s) (c .args .note) (c .args .was) (c .args .marks .now) (c .pre .long) (c .args .at) (c .pre .within) (c .pre .entry) (line .waiting (c .args .line .now)) (line .waiting (c .take-sure .last .line)) (c .take-sure .ensures .notes) _ (c .pre .kind) (sym (c .if-not-awaits .ensures tt)),
-    c .take-sure .ensures .size)
+    let line = g .L·Line in (
+      took-hears (g .K·Ranking .atleast) (held s) (held-sound s) (c .args .note) (c .args .was) (c .args .marks .now) (c .pre .long) (c .args .at) (c .pre .within) (c .pre .entry) (line .waiting (c .args .line .now)) (line .waiting (c .take-sure .last .line)) (c .take-sure .ensures .notes) _ (c .pre .kind) (sym (c .if-not-awaits .ensures tt)),
+      c .take-sure .ensures .size,
+    )
 
 pub add-free : need.add-free
 add-free g c = omega (arith, c .free .ensures, g .L·Line .lawful (c .args .line .now) .limit)
@@ -35,6 +36,7 @@ let-go-requires g c κs =
 pub returns : need.returns
 returns g c =
     let s = c .args .sheet .now in
-    let line = g .L·Line in
-    (took-agrees (g .K·Ranking .atleast) (held s) (held-sound s) (c .args .note) (c .args .was) (c .args .marks .now) (c .pre .long) (c .args .at) (c .pre .within) (c .pre .entry) (line .waiting (c .args .line .now)) (line .waiting (c .take-sure-2 .last .line)) (c .take-sure-2 .ensures .notes) _ (c .pre .kind) (sym (c .if-not-awaits .ensures tt)) (c .with-choice .result) (c .let-go .last .marks) (line .waiting (c .let-go .last .line)) (c .count-open-others-count .result) (c .with-choice .ensures) (c .count-open-others-count .ensures) (omega (arith, c .free .ensures, c .if-count-free .left)) (c .let-go .ensures .done),
-    c .let-go .ensures .size ∙ c .take-sure-2 .ensures .size)
+    let line = g .L·Line in (
+      took-agrees (g .K·Ranking .atleast) (held s) (held-sound s) (c .args .note) (c .args .was) (c .args .marks .now) (c .pre .long) (c .args .at) (c .pre .within) (c .pre .entry) (line .waiting (c .args .line .now)) (line .waiting (c .take-sure-2 .last .line)) (c .take-sure-2 .ensures .notes) _ (c .pre .kind) (sym (c .if-not-awaits .ensures tt)) (c .with-choice .result) (c .let-go .last .marks) (line .waiting (c .let-go .last .line)) (c .count-open-others-count .result) (c .with-choice .ensures) (c .count-open-others-count .ensures) (omega (arith, c .free .ensures, c .if-count-free .left)) (c .let-go .ensures .done),
+      c .let-go .ensures .size ∙ c .take-sure-2 .ensures .size,
+    )
