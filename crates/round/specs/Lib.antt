@@ -1,2 +1,3 @@
 pub mod Seen
 pub mod Parts
+pub mod Closing
