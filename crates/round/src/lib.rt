@@ -10,5 +10,6 @@ pub use choose::STRUCK;
 pub use closing::close;
 pub use closing::open;
 pub use fetching::fetch;
+pub use starting::fits_sheet;
 pub use starting::start;
 pub use state::Round;

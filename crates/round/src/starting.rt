@@ -21,8 +21,8 @@ use records::LONE;
 use records::Record;
 use sheet::Sheet;
 
-// Whether the tables have the sheet's lengths, and the round its sizes.
-pub(crate) fn fits_sheet<K: Copy>(
+/// Whether the tables have the sheet's lengths, and the round its sizes.
+pub fn fits_sheet<K: Copy>(
     round: &Round,
     sheet: &Sheet<K>,
     records: &[Record],
