@@ -62,7 +62,12 @@ fn is_empty<L: Line>(line: &L) -> bool
 ///
 /// Refuses, and then alters nothing, a line that is not empty or that holds fewer notes than the sheet has entries (11),
 /// and records or marks that have not the sheet's lengths (12), both at 0.
-pub fn open<K: Ranking, L: Line>(sheet: &Sheet<K>, records: &mut [Record], marks: &mut [u8], line: &L) -> Result<Round, Fault>
+pub fn open<K: Ranking, L: Line>(
+    sheet: &Sheet<K>,
+    records: &mut [Record],
+    marks: &mut [u8],
+    line: &L,
+) -> Result<Round, Fault>
     ensures { λ r. ⌜ elim r [ Ok x ↦ Opened (held (now (sheet .entry))) (world (L·Line .waiting) (L·Line .capacity) (L·Line .chosen) x (now (records .exit)) (now (marks .exit)) (now (line .entry))) | Err f ↦ Open-refused (held (now (sheet .entry))) (now (records .entry)) (now (marks .entry)) (L·Line .waiting (now (line .entry))) (L·Line .capacity (now (line .entry))) (f .0) (f .1) × (now (records .exit) ≡ now (records .entry)) × (now (marks .exit) ≡ now (marks .entry)) ] ⌝ }
 {
     let tables = sheet.tables();
@@ -109,7 +114,13 @@ fn first_undecided<K: Copy>(sheet: &Sheet<K>, records: &[Record]) -> Option<usiz
 ///
 /// Its contract holds the law of rounds: whatever list of calls led here since the round was opened, on a sheet whose
 /// two sides rank alike, the law holds.
-pub fn close<K: Ranking, L: Line>(round: Round, sheet: &Sheet<K>, records: &[Record], marks: &[u8], line: &L) -> Result<Totals, (Round, Fault)>
+pub fn close<K: Ranking, L: Line>(
+    round: Round,
+    sheet: &Sheet<K>,
+    records: &[Record],
+    marks: &[u8],
+    line: &L,
+) -> Result<Totals, (Round, Fault)>
     ensures answer { λ r. ⌜ elim r [ Ok x ↦ Closed (held (now (sheet .entry))) (world (L·Line .waiting) (L·Line .capacity) (L·Line .chosen) round (now (records .entry)) (now (marks .entry)) (now (line .entry))) x | Err f ↦ (f .0 ≡ round) × Close-refused (held (now (sheet .entry))) (world (L·Line .waiting) (L·Line .capacity) (L·Line .chosen) round (now (records .entry)) (now (marks .entry)) (now (line .entry))) (f .1 .0) (f .1 .1) × (Closable (held (now (sheet .entry))) (world (L·Line .waiting) (L·Line .capacity) (L·Line .chosen) round (now (records .entry)) (now (marks .entry)) (now (line .entry))) → ⊥) ] ⌝ }
     ensures law { λ _. ⌜ ((calls : List Call) → Alike (K·Ranking .atleast) (held (now (sheet .entry))) → After (K·Ranking .atleast) (held (now (sheet .entry))) calls (world (L·Line .waiting) (L·Line .capacity) (L·Line .chosen) round (now (records .entry)) (now (marks .entry)) (now (line .entry))) → Law (K·Ranking .atleast) (held (now (sheet .entry))) (world (L·Line .waiting) (L·Line .capacity) (L·Line .chosen) round (now (records .entry)) (now (marks .entry)) (now (line .entry)))) ⌝ }
 {

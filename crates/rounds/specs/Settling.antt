@@ -1,0 +1,42 @@
+-- Settling a round: open, run until still, close. Assumes nothing.
+use mathlib.Core.Path.{_≡_}
+use mathlib.Core.Bool.{Bool}
+use mathlib.Core.List.{List, []}
+use mathlib.Core.Logic.{_⊎_}
+use Prim.Native.Nat.{ℕ, _≤_}
+use lib.ListN.{length}
+use Rattle.std.specs.declared.result.Result.{Result}
+use Rattle.std.specs.declared.result.Result.the-variants.{Ok, Err}
+use Rattle.line.specs.declared.Note.{Note}
+use Rattle.records.specs.declared.Record.{Record}
+use Rattle.records.specs.declared.Totals.{Totals}
+use Rattle.records.specs.Records.{Entire}
+use Rattle.sheet.specs.Graph.{Graph, parcels, entries}
+use Rattle.pairing.specs.Above.{greedy-pairing}
+use Rattle.protocol.specs.World.{World}
+use Rattle.protocol.specs.Runs.{Ran}
+use Rattle.protocol.specs.History.{Opened}
+use Rattle.protocol.specs.Law.{Law}
+use Rattle.round.specs.Closing.{Closed, Close-refused}
+use Rattle.protocol.specs.declared.Ending.{Ending}
+
+-- a round was opened and run, and came to the world w
+pub record Came-to {K : Type 0} (atleast : K → K → Bool) (t : Graph K) (w : World) : Type 0 where
+  pub first : World
+  pub opened : Opened t first
+  pub made : ℕ
+  pub ending : Ending
+  pub ran : Ran atleast t 4294967295 first made ending w
+
+-- tables of the right lengths, and an empty line with room for the entries
+pub record Ready {K : Type 0} (t : Graph K) (rs : List Record) (m : List ℕ) (waiting : List Note) (capacity : ℕ) : Type 0 where
+  pub records-long : length rs ≡ parcels t
+  pub marks-long : length m ≡ entries t
+  pub empty : waiting ≡ []
+  pub room : entries t ≤ capacity
+
+-- a settled round: closed with these totals, under the law, with the greedy pairing recorded entire
+pub record Settles {K : Type 0} (atleast : K → K → Bool) (t : Graph K) (w : World) (x : Totals) : Type 0 where
+  pub closed : Closed t w x
+  pub law : Law atleast t w
+  pub whole : Entire t (w .records) (greedy-pairing atleast t)
