@@ -18,6 +18,7 @@ use Rattle.protocol.specs.Runs.{Ran}
 use Rattle.protocol.specs.History.{Opened}
 use Rattle.protocol.specs.Law.{Law}
 use Rattle.round.specs.Closing.{Closed, Close-refused}
+use Rattle.round.specs.declared.state.Round.{Round}
 use Rattle.protocol.specs.declared.Ending.{Ending}
 
 -- a round was opened and run, and came to the world w
@@ -40,3 +41,23 @@ pub record Settles {K : Type 0} (atleast : K → K → Bool) (t : Graph K) (w : 
   pub closed : Closed t w x
   pub law : Law atleast t w
   pub whole : Entire t (w .records) (greedy-pairing atleast t)
+
+-- a round was opened and run, and these are its records, marks and line
+pub record Ended {K : Type 0} (atleast : K → K → Bool) (t : Graph K) (see : Round → World) : Type 0 where
+  pub round : Round
+  pub came : Came-to atleast t (see round)
+
+-- what settling answers: what close does of a round that was opened and run, or what open does
+abbrev pub Settling : {K : Type 0} → (K → K → Bool) → Graph K → (Round → World) → (ℕ → ℕ → Type 0) → Result Totals (ℕ × ℕ) → Type 0
+Settling atleast t see unopened (Ok x) = (e : Ended atleast t see) × Closed t (see (e .round)) x
+Settling atleast t see unopened (Err f) = unopened (f .0) (f .1) ⊎ ((e : Ended atleast t see) × Close-refused t (see (e .round)) (f .0) (f .1))
+
+-- and on a sheet whose two sides rank alike: only open refuses, and the round ends settled
+abbrev pub Settles-or-unopened : {K : Type 0} → (K → K → Bool) → Graph K → (Round → World) → (ℕ → ℕ → Type 0) → Result Totals (ℕ × ℕ) → Type 0
+Settles-or-unopened atleast t see unopened (Ok x) = (r : Round) × Settles atleast t (see r) x
+Settles-or-unopened atleast t see unopened (Err f) = unopened (f .0) (f .1)
+
+-- with tables of the right lengths and an empty line with room for the entries, it does not refuse
+abbrev pub Does-not-refuse : Result Totals (ℕ × ℕ) → Type 0
+Does-not-refuse (Ok _) = Unit {0}
+Does-not-refuse (Err _) = ⊥

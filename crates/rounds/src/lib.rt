@@ -7,6 +7,9 @@ ghost use Rattle.sheet.specs.Graph.{parcels};
 ghost use Rattle.sheet.specs.Held.{held};
 ghost use Rattle.protocol.specs.Runs.{Ran, None-idle};
 ghost use Rattle.round.specs.Seen.{world};
+ghost use Rattle.sheet.specs.Check.{Alike};
+ghost use Rattle.round.specs.Closing.{Open-refused};
+ghost use Rattle.rounds.specs.Settling.{Ready, Settling, Settles-or-unopened, Does-not-refuse};
 ghost use Rattle.rounds.specs.Next.{Idle, Store, Next-turn, Turned};
 use faults::Fault;
 use faults::WRONG_LENGTH;
@@ -15,9 +18,12 @@ use protocol::Ending;
 use ranking::Ranking;
 use records::IDLE;
 use records::Record;
+use records::Totals;
 use round::Round;
+use round::close;
 use round::fetch;
 use round::fits_sheet;
+use round::open;
 use round::start;
 use sheet::Sheet;
 
@@ -137,5 +143,25 @@ pub fn run<K: Ranking, L: Line>(
     match next_turn(round, sheet, records, marks, line) {
         Some(_) => (budget, Ending::Spent),
         None => (budget, Ending::Still),
+    }
+}
+
+/// Settles a round: opens it, runs it until it is still, and closes it.
+///
+/// Refuses what `open` refuses, and then alters nothing. On a sheet whose two sides rank alike it refuses nothing else:
+/// the round ends settled, and the records hold the greedy pairing entire.
+pub fn settle<K: Ranking, L: Line>(sheet: &Sheet<K>, records: &mut [Record], marks: &mut [u8], line: &mut L) -> Result<Totals, Fault>
+    ensures did { λ r. ⌜ Settling (K·Ranking .atleast) (held (now (sheet .entry))) (λ x. world (L·Line .waiting) (L·Line .capacity) (L·Line .chosen) x (now (records .exit)) (now (marks .exit)) (now (line .exit))) (λ k p. Open-refused (held (now (sheet .entry))) (now (records .entry)) (now (marks .entry)) (L·Line .waiting (now (line .entry))) (L·Line .capacity (now (line .entry))) k p × (now (records .exit) ≡ now (records .entry)) × (now (marks .exit) ≡ now (marks .entry)) × (now (line .exit) ≡ now (line .entry))) r ⌝ }
+    ensures settles { λ r. ⌜ (Alike (K·Ranking .atleast) (held (now (sheet .entry))) → Settles-or-unopened (K·Ranking .atleast) (held (now (sheet .entry))) (λ x. world (L·Line .waiting) (L·Line .capacity) (L·Line .chosen) x (now (records .exit)) (now (marks .exit)) (now (line .exit))) (λ k p. Open-refused (held (now (sheet .entry))) (now (records .entry)) (now (marks .entry)) (L·Line .waiting (now (line .entry))) (L·Line .capacity (now (line .entry))) k p × (now (records .exit) ≡ now (records .entry)) × (now (marks .exit) ≡ now (marks .entry)) × (now (line .exit) ≡ now (line .entry))) r) ⌝ }
+    ensures ready { λ r. ⌜ (Alike (K·Ranking .atleast) (held (now (sheet .entry))) → Ready (held (now (sheet .entry))) (now (records .entry)) (now (marks .entry)) (L·Line .waiting (now (line .entry))) (L·Line .capacity (now (line .entry))) → Does-not-refuse r) ⌝ }
+{
+    let mut round = match open(sheet, records, marks, line) {
+        Ok(round) => round,
+        Err(fault) => return Err(fault),
+    };
+    let _ = run(&mut round, sheet, records, marks, line, u32::MAX);
+    match close(round, sheet, records, marks, line) {
+        Ok(totals) => Ok(totals),
+        Err((_, fault)) => Err(fault),
     }
 }
