@@ -1,3 +1,4 @@
 pub mod Worth
+pub mod Numbers
 pub mod Text
 pub mod Example

@@ -5,7 +5,7 @@ ghost use Rattle.std.specs.declared.result.Result.the-variants.{Ok, Err};
 ghost use Rattle.std.specs.shelf.Lists.{joined};
 ghost use Rattle.sheet.specs.Held.{held};
 ghost use Rattle.records.specs.Listed.{lower-pairs};
-ghost use Rattle.results.specs.Text.{put-in, line, pair-line, totals-line, result-text, Printed, Text-refused};
+ghost use Rattle.results.specs.Text.{put-in, line, pair-line, Printed, Text-refused};
 use crate::numbers::digit_count;
 use crate::numbers::write_field;
 use faults::Fault;
