@@ -40,7 +40,8 @@ pub trait Line {
     // the note that a store would be handed
     ghost chosen: { Self → ℕ → Option Note };
 
-    law lawful: { (l : Self) → Lawful (waiting l) (capacity l) (chosen l) };
+    // the law that each kind of line proves
+    ghost lawful: { (l : Self) → Lawful (waiting l) (capacity l) (chosen l) };
 
     /// How many more notes the line takes.
     fn free(&self) -> u32

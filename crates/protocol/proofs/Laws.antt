@@ -309,6 +309,7 @@ module _ {K : Type 0} (atleast : K → K → Bool) (laws : Lawful atleast) (t : 
       pair = λ u v r. subst (λ x. joint u x ∈ greedy-pairing atleast t) (r .with′) (recorded-greedy atleast laws t sound alike (core-of atleast laws t sound alike w) inv u (r .parcel) (r .paired));
       lone = lone-greedy atleast laws t sound alike (core-of atleast laws t sound alike w) inv;
       entire = whole;
+      in-range = not-astray;
       balance = holds .balance;
       few = omega (arith, holds .used, used-few t sound (w .records) (w .marks));
       goes-on = goes-on law;

@@ -15,7 +15,7 @@ use Rattle.matching.specs.Half.{Pairing}
 use Rattle.sheet.specs.Graph.{Graph, parcels, entries}
 use Rattle.pairing.specs.Pairs.{joint, sheet-pairs, pair-key}
 use Rattle.pairing.specs.Above.{greedy-pairing}
-use Rattle.records.specs.Records.{state, Records-pair, Entire}
+use Rattle.records.specs.Records.{state, astray, Records-pair, Entire}
 use Rattle.records.specs.Listed.{lower-pairs}
 use Rattle.protocol.specs.World.{World}
 use Rattle.protocol.specs.Turns.{Start-accepted, Fetch-accepted}
@@ -57,6 +57,8 @@ module _ {K : Type 0} (atleast : K → K → Bool) (t : Graph K) (w : World) whe
     pub lone : (u : ℕ) → u < parcels t → state (w .records) u ≡ 3 → (p : Pair) → p ∈ greedy-pairing atleast t → holds p u ≡ true → ⊥
     -- a settled round records that pairing entire
     pub entire : Settled t w → Entire t (w .records) (greedy-pairing atleast t)
+    -- no record is out of range
+    pub in-range : (u : ℕ) → u < parcels t → astray t (w .records) u ≡ false
     -- accepted turns = parcels started + notes sent − notes waiting
     pub balance : w .turns + length (w .waiting) ≡ started t w + w .sent
     -- notes sent never exceed entries

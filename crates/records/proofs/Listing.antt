@@ -9,13 +9,15 @@ use lib.Dec.{eqb, ltb}
 use lib.ListN.{length, getD}
 use Rattle.std.specs.Iters.{counting}
 use Rattle.std.specs.Options.{isSome}
+use Rattle.std.specs.declared.option.Option.{Option}
 use Rattle.std.specs.declared.option.Option.the-variants.{Some, None}
-use Rattle.std.specs.shelf.Lists.{kept-by, countBy}
+use Rattle.std.specs.shelf.Lists.{kept-by, countBy, sumBy}
 use Rattle.std.proofs.shelf.Counted.{map-counting-more, length-counting}
 use Rattle.std.proofs.shelf.Elements.{kept-by-append}
 use Rattle.std.proofs.shelf.Lists.{getD-past, append-nil, map-id, map-push, length-map, length-push}
 use Rattle.std.proofs.shelf.Sums.{sumBy-push, countBy-le-length, length-kept-by}
-use Rattle.std.proofs.shelf.Tests.{eq-eqb, ne-eqb, le-ltb, and-left, and-right, cond-true, cond-false, cases-bool}
+use Rattle.std.proofs.shelf.Tests.{true≢false, false≢true, eq-eqb, ne-eqb, le-ltb, ltb-true, eqb-true, and-left, and-right, and-parts, cond-true, cond-false, cases-bool, cases-lt}
+use Rattle.matching.specs.Pairs.{Pair}
 use Rattle.sheet.specs.Graph.{Graph, parcels, row-end}
 use Rattle.records.specs.declared.Record.{Record}
 use Rattle.records.specs.Records.{state, chosen-place, chosen}
@@ -61,13 +63,13 @@ module _ {K : Type 0} (t : Graph K) (rs : List Record) where
       none-above u (and-right (eqb (state rs u) 2) _ (and-left (ltb (chosen-place t rs u) (row-end t u)) _ (le-ltb (chosen-place t rs u) (row-end t u) (omega arith))))
 
   -- what the answer of the accessor tells
-  some-pairs : (u v : ℕ) → Some v ≡ partner-above t rs u → (pairs-up t rs u ≡ true) × (v ≡ chosen t rs u)
+  pub some-pairs : (u v : ℕ) → Some v ≡ partner-above t rs u → (pairs-up t rs u ≡ true) × (v ≡ chosen t rs u)
   some-pairs u v is =
       ⊎-elim (λ y. (y, let e : Some v ≡ Some (chosen t rs u) = is ∙ cond-true (pairs-up t rs u) _ None y in cc))
       (λ n. let e : Some v ≡ None = is ∙ cond-false (pairs-up t rs u) _ None n in let z : _≡_ {A = ℕ} 0 1 = cc in absurd (omega arith))
       (cases-bool (pairs-up t rs u))
 
-  none-pairs : (u : ℕ) → None ≡ partner-above t rs u → pairs-up t rs u ≡ false
+  pub none-pairs : (u : ℕ) → None ≡ partner-above t rs u → pairs-up t rs u ≡ false
   none-pairs u is =
       ⊎-elim (λ y. let e : None ≡ Some (chosen t rs u) = is ∙ cond-true (pairs-up t rs u) _ None y in let z : _≡_ {A = ℕ} 0 1 = cc in absurd (omega arith))
       (λ n. n) (cases-bool (pairs-up t rs u))
@@ -94,14 +96,39 @@ module _ {K : Type 0} (t : Graph K) (rs : List Record) where
   pairs-more-none u is = pairs-more-no u (none-pairs u is)
 
   -- how many there are then
-  pub count-more : (u : ℕ) → length (pairs-below t rs (u + 1)) ≡ length (pairs-below t rs u) + cond (isSome (partner-above t rs u)) 1 0
-  count-more u =
-      ⊎-elim
-      (λ y. ap length (pairs-more-yes u y) ∙ length-push (pairs-below t rs u) (own-pair t rs u) ∙ ap (λ b. length (pairs-below t rs u) + cond (isSome (cond b (Some (chosen t rs u)) None)) 1 0) (sym y))
-      (λ n. let none : cond {A = ℕ} (isSome (partner-above t rs u)) 1 0 ≡ 0 = ap (λ o. cond (isSome o) 1 0) (sym (none-above u n)) in omega (arith, ap length (pairs-more-no u n)))
-      (cases-bool (pairs-up t rs u))
+  pub count-more-yes : (u : ℕ) (r : Option ℕ) → r ≡ partner-above t rs u → true ≡ isSome r → length (pairs-below t rs (u + 1)) ≡ length (pairs-below t rs u) + 1
+  count-more-yes u None is some = absurd (true≢false some)
+  count-more-yes u (Some v) is some = ap length (pairs-more-some u v is) ∙ length-push (pairs-below t rs u) (record { lo = u; hi = v })
+
+  pub count-more-no : (u : ℕ) (r : Option ℕ) → r ≡ partner-above t rs u → false ≡ isSome r → length (pairs-below t rs (u + 1)) ≡ length (pairs-below t rs u)
+  count-more-no u None is none = ap length (pairs-more-none u is)
+  count-more-no u (Some v) is none = absurd (false≢true none)
 
   pub pairs-few : (n : ℕ) → length (pairs-below t rs n) ≤ n
   pairs-few n =
       let few = countBy-le-length (pairs-up t rs) (counting 0 n) in
       omega (arith, length-map (kept-by (pairs-up t rs) (counting 0 n)) (own-pair t rs), length-kept-by (pairs-up t rs) (counting 0 n), length-counting 0 n)
+
+  -- where the entry stands that u chose
+  pub record Up-facts (u : ℕ) : Type 0 where
+    pub parcel : u < parcels t
+    pub recorded : u < length rs
+    pub within : chosen-place t rs u < row-end t u
+
+  pub up-facts : length (t .starts) ≡ parcels t + 1 → (u : ℕ) → pairs-up t rs u ≡ true → Up-facts u
+  up-facts long u y =
+      let both = and-parts (eqb (state rs u) 2) _ y in
+      let within = ltb-true (chosen-place t rs u) (row-end t u) (and-parts (ltb (chosen-place t rs u) (row-end t u)) _ (both .1) .0) in
+      record {
+        parcel = ⊎-elim (λ l. l) (λ past. absurd (omega (arith, within, getD-past (t .starts) (u + 1) 0 (omega arith)))) (cases-lt u (parcels t));
+        recorded = ⊎-elim (λ l. l) (λ past. absurd (omega (arith, state-past rs u past, eqb-true (state rs u) 2 (both .0)))) (cases-lt u (length rs));
+        within = within;
+      }
+
+  -- a sum over the list, one parcel more
+  pub sum-more : (f : Pair → ℕ) (u : ℕ) → sumBy f (pairs-below t rs (u + 1)) ≡ sumBy f (pairs-below t rs u) + cond (pairs-up t rs u) (f (own-pair t rs u)) 0
+  sum-more f u =
+      ⊎-elim
+      (λ y. ap (sumBy f) (pairs-more-yes u y) ∙ sumBy-push f (pairs-below t rs u) (own-pair t rs u) ∙ ap (λ b. sumBy f (pairs-below t rs u) + cond b (f (own-pair t rs u)) 0) (sym y))
+      (λ n. let none : cond {A = ℕ} (pairs-up t rs u) (f (own-pair t rs u)) 0 ≡ 0 = ap (λ b. cond b (f (own-pair t rs u)) 0) n in omega (arith, ap (sumBy f) (pairs-more-no u n)))
+      (cases-bool (pairs-up t rs u))

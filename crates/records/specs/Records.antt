@@ -5,6 +5,8 @@ use mathlib.Core.List.{List, [], _∷_, _++_}
 use Prim.Native.Nat.{ℕ, zero, suc, _+_, _<_}
 use lib.Dec.{eqb, ltb, leb}
 use lib.ListN.{length, getD}
+use Rattle.std.specs.declared.option.Option.{Option}
+use Rattle.std.specs.declared.option.Option.the-variants.{Some, None}
 use Rattle.matching.specs.Pairs.{Pair, holds, _∈_}
 use Rattle.pairing.specs.Pairs.{joint}
 use Rattle.sheet.specs.Graph.{Graph, parcels, row-start, row-end, other}
@@ -31,6 +33,10 @@ chosen t rs u = other t (chosen-place t rs u)
 -- the record of u is out of range: a state above 3, or a state 1 or 2 with a choice outside the row
 abbrev pub astray : {K : Type 0} → Graph K → List Record → ℕ → Bool
 astray t rs u = ltb 3 (state rs u) || ((eqb (state rs u) 1 || eqb (state rs u) 2) && leb (row-end t u) (chosen-place t rs u))
+
+-- that, if u is a parcel and there is a record for each
+abbrev pub strays-at : {K : Type 0} → Graph K → List Record → ℕ → Option Bool
+strays-at t rs u = cond (eqb (length rs) (parcels t) && ltb u (parcels t)) (Some (astray t rs u)) None
 
 -- u records the pair of itself and v
 pub record Records-pair {K : Type 0} (t : Graph K) (rs : List Record) (u v : ℕ) : Type 0 where

@@ -7,7 +7,8 @@ ghost use Rattle.std.specs.declared.result.Result.the-variants.{Ok, Err};
 ghost use Rattle.sheet.specs.Graph.{parcels, sized, fitted};
 ghost use Rattle.sheet.specs.View.{graph};
 ghost use Rattle.sheet.specs.Held.{held};
-ghost use Rattle.records.specs.Records.{astray};
+ghost use Rattle.records.specs.Example.{Row-of-four};
+ghost use Rattle.records.specs.Records.{astray, strays-at};
 ghost use Rattle.records.specs.Right.{Right, Refused, Lowest};
 ghost use Rattle.records.specs.Listed.{Listed, partner-above, lower-pairs, lone-count};
 use faults::ASTRAY;
@@ -45,6 +46,18 @@ fn is_astray<K: Copy>(t: Tables<K>, records: &[Record], u: usize) -> bool
     let place = t.starts[u] as usize + record.choice as usize;
     record.state > LONE
         || ((record.state == WAITS || record.state == PAIRED) && place >= t.starts[u + 1] as usize)
+}
+
+/// Whether the record of parcel `u` is out of range; no answer where there is no such parcel, or not one record for
+/// each parcel.
+pub fn record_strays<K: Copy>(sheet: &Sheet<K>, records: &[Record], u: usize) -> Option<bool>
+    ensures { λ r. ⌜ r ≡ strays-at (held (now (sheet .entry))) (now (records .entry)) u ⌝ }
+{
+    let tables = sheet.tables();
+    if records.len() != tables.stores.len() || u >= records.len() {
+        return None;
+    }
+    Some(is_astray(tables, records, u))
 }
 
 // The lowest parcel whose record is out of range.
@@ -165,3 +178,8 @@ pub fn count<K: Copy>(sheet: &Sheet<K>, records: &[Record]) -> Tally
         lone: count_lone(sheet, records),
     }
 }
+
+/// The example of four parcels in a row.
+pub fn row_of_four()
+    ensures { λ _. ⌜ Row-of-four ⌝ }
+{}

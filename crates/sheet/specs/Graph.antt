@@ -5,6 +5,7 @@ use Prim.Native.Nat.{ℕ, zero, suc, _+_, _-_, _≤_, _<_}
 use lib.Dec.{eqb, ltb, leb}
 use lib.ListN.{length, getD}
 use Rattle.std.specs.declared.option.Option.{Option}
+use Rattle.std.specs.declared.option.Option.the-variants.{Some, None}
 use Rattle.std.specs.shelf.Maps.{nth}
 use Rattle.ranking.specs.Law.{alike, lifted}
 
@@ -59,6 +60,10 @@ first-place xs (suc k) p v = cond (eqb (getD xs p 0) v) p (first-place xs k (suc
 -- the first place of row u that names v; the row's end if there is none
 abbrev pub place-of : {K : Type 0} → Graph K → ℕ → ℕ → ℕ
 place-of t u v = first-place (t .others) (row-end t u - row-start t u) (row-start t u) v
+
+-- that place, if u is a parcel and its row names v
+abbrev pub entry-between : {K : Type 0} → Graph K → ℕ → ℕ → Option ℕ
+entry-between t u v = cond (ltb u (parcels t) && ltb (place-of t u v) (row-end t u)) (Some (place-of t u v)) None
 
 -- the mirror of the entry at place p of row u: the first entry for u in the row of the parcel that it names
 abbrev pub mirror : {K : Type 0} → Graph K → ℕ → ℕ → ℕ

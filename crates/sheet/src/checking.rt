@@ -4,7 +4,7 @@ ghost use Prim.Native.Nat.{ℕ, _+_, _-_, _≤_, _<_};
 ghost use lib.ListN.{length, getD};
 ghost use Rattle.std.specs.declared.option.Option.the-variants.{Some, None};
 ghost use Rattle.std.specs.declared.result.Result.the-variants.{Ok, Err};
-ghost use Rattle.sheet.specs.Graph.{In-row, parcels, sized, fitted, bare-right, parcel-right, rises, mirrored, one-edition, sides-alike, first-place};
+ghost use Rattle.sheet.specs.Graph.{In-row, parcels, sized, fitted, bare-right, parcel-right, rises, mirrored, one-edition, sides-alike, first-place, entry-between};
 ghost use Rattle.sheet.specs.Check.{Passed, Refused, Parcels-right, Wrong-parcel, Wrong-entry, entry-fault};
 ghost use Rattle.sheet.specs.View.{graph};
 ghost use Rattle.ranking.specs.Law.{alike, lifted};
@@ -186,4 +186,17 @@ pub fn check<'a, K: Ranking>(sheet: &mut Sheet<'a, K>, tables: Tables<'a, K>) ->
     }
     *sheet = Sheet { tables };
     Ok(())
+}
+
+/// The place of the first entry of row `u` that names `v`, if there is one.
+pub fn find_entry<K: Copy>(sheet: &Sheet<K>, u: usize, v: usize) -> Option<usize>
+    ensures { λ r. ⌜ r ≡ entry-between (graph (now (sheet .entry) .tables)) u v ⌝ }
+{
+    let t = sheet.tables;
+    if u >= t.stores.len() {
+        return None;
+    }
+    let end = t.starts[u + 1] as usize;
+    let p = find(t.others, t.starts[u] as usize, end, v);
+    if p < end { Some(p) } else { None }
 }

@@ -8,4 +8,5 @@ pub use checking::MOST_ENTRIES;
 pub use checking::MOST_PARCELS;
 pub use checking::MOST_STORES;
 pub use checking::check;
+pub use checking::find_entry;
 pub use tables::Tables;

@@ -1,11 +1,6 @@
-use mathlib.Core.Path.{_≡_, sym, ap, _∙_}
-use mathlib.Core.Bool.{cond}
-use Prim.Native.Nat.{ℕ}
 use native.Mathlib.Omega.{arith}
-use Rattle.std.specs.Options.{isSome}
 use Rattle.sheet.specs.Held.{held}
-use Rattle.records.specs.Listed.{partner-above}
-use Rattle.records.proofs.Listing.{count-more, pairs-few}
+use Rattle.records.proofs.Listing.{count-more-yes, count-more-no, pairs-few}
 use Rattle.records.proofs.count_pairs.Needs as need
 use Rattle.records.proofs.count_pairs.Needs.{then-is-some, else-is-some}
 
@@ -17,13 +12,9 @@ loop-u-again g c =
     let t = held (c .args .sheet .now) in
     let rs = c .args .records .now in
     let u = c .loop-u .u in
-    let more = count-more t rs u in
-    let found : c .is-some .result ≡ isSome (partner-above t rs u) = c .is-some .ensures ∙ ap isSome (c .partner-above .ensures) in
+    let r = c .partner-above .result in
+    let is = c .partner-above .ensures in
     elim (c .if-is-some .came) [
-      | then-is-some w ↦
-          let one : cond {A = ℕ} (isSome (partner-above t rs u)) 1 0 ≡ 1 = ap (λ b. cond b 1 0) (sym found ∙ w .if-is-some .taken) in
-          w .pairs-is ∙ omega (arith, more, c .loop-u .inv)
-      | else-is-some w ↦
-          let none : cond {A = ℕ} (isSome (partner-above t rs u)) 1 0 ≡ 0 = ap (λ b. cond b 1 0) (sym found ∙ w .if-is-some .left) in
-          w .pairs-is ∙ omega (arith, more, c .loop-u .inv)
+      | then-is-some w ↦ omega (arith, w .pairs-is, c .loop-u .inv, count-more-yes t rs u r is (w .if-is-some .ensures tt))
+      | else-is-some w ↦ omega (arith, w .pairs-is, c .loop-u .inv, count-more-no t rs u r is (w .if-is-some .ensures tt))
     ]

@@ -1,0 +1,3 @@
+pub mod Worth
+pub mod Text
+pub mod Example

@@ -1,0 +1,4 @@
+pub mod Cuts
+pub mod Worth
+pub mod OneWay
+pub mod Steps
