@@ -1,17 +1,17 @@
 -- The top candidate of a row, found from its beginning on. Assumes nothing.
-use mathlib.Core.Path.{_≡_, refl, sym, ap, subst, _∙_}
+use mathlib.Core.Path.{_≡_, sym, ap, subst, _∙_}
 use mathlib.Core.Bool.{Bool, true, false, not, _&&_, _||_}
-use mathlib.Core.Logic.{_⊎_, inl, inr, ⊎-elim}
+use mathlib.Core.Logic.{⊎-elim}
 use Prim.Native.Nat.{ℕ, _+_, _<_, _≤_}
 use native.Mathlib.Omega.{arith}
 use lib.Dec.{ltb}
 use Rattle.std.specs.declared.option.Option.{Option}
 use Rattle.std.specs.declared.option.Option.the-variants.{Some, None}
 use Rattle.std.specs.Options.{Cases}
-use Rattle.std.proofs.shelf.Tests.{both-ways, lt-ltb, cases-eq, cases-bool}
-use Rattle.ranking.specs.Law.{Lawful, lifted, alike}
+use Rattle.std.proofs.shelf.Tests.{both-ways, lt-ltb, cases-eq}
+use Rattle.ranking.specs.Law.{Lawful, lifted}
 use Rattle.ranking.proofs.Lifted.{lifted-lawful}
-use Rattle.sheet.specs.Graph.{Graph, parcels, row-start, row-end, other, key, In-row}
+use Rattle.sheet.specs.Graph.{Graph, row-start, row-end, other, key, In-row}
 use Rattle.sheet.specs.Check.{Sound, Alike}
 use Rattle.pairing.specs.Pairs.{joint}
 use Rattle.pairing.specs.Above.{above, entry-above}

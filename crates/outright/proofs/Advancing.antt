@@ -1,18 +1,17 @@
 -- From one settling to the next: the worklist, and what stays. Assumes nothing.
 use mathlib.Core.Path.{_≡_, refl, sym, ap, subst, _∙_}
-use mathlib.Core.Bool.{Bool, true, false, cond}
+use mathlib.Core.Bool.{Bool, cond}
 use mathlib.Core.List.{List}
 use mathlib.Core.Logic.{_⊎_, inl, inr, ⊎-elim}
 use Prim.Native.Nat.{ℕ, _+_, _-_, _≤_, _<_}
 use native.Mathlib.Omega.{arith}
 use lib.Dec.{eqb}
 use lib.ListN.{length, getD, set, length-set}
-use Rattle.std.specs.shelf.Lists.{countBy}
 use Rattle.std.proofs.shelf.Lists.{getD-set-same, getD-set-other}
 use Rattle.std.proofs.shelf.Sums.{sumBy-set, countBy-le-length}
 use Rattle.std.proofs.shelf.Tests.{cases-eq, cases-lt, eq-eqb, ne-eqb}
 use Rattle.ranking.specs.Law.{Lawful}
-use Rattle.sheet.specs.Graph.{Graph, parcels, row-start, other, In-row}
+use Rattle.sheet.specs.Graph.{Graph, parcels, row-start, other}
 use Rattle.sheet.specs.Check.{Sound}
 use Rattle.pairing.proofs.Entries.{other-below, other-not-own}
 use Rattle.records.specs.Records.{record-of, state, choice, chosen}

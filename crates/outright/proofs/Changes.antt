@@ -1,21 +1,21 @@
 -- What one settling changes, parcel by parcel. Assumes nothing.
 use mathlib.Core.Path.{_≡_, refl, sym, ap, subst, _∙_}
-use mathlib.Core.Bool.{Bool, true, false, not, _&&_}
+use mathlib.Core.Bool.{Bool, true, false, not}
 use mathlib.Core.List.{List}
 use mathlib.Core.Logic.{_⊎_, inl, inr, ⊎-elim}
-use Prim.Native.Nat.{ℕ, _+_, _-_, _≤_, _<_}
+use Prim.Native.Nat.{ℕ, _+_, _-_, _<_}
 use native.Mathlib.Omega.{arith}
 use lib.Dec.{eqb, ltb}
-use lib.ListN.{length, getD, set, length-set}
+use lib.ListN.{length, set, length-set}
 use Rattle.std.proofs.shelf.Lists.{getD-set-same, getD-set-other}
-use Rattle.std.proofs.shelf.Tests.{and-parts, and-from, and-cases, lt-ltb, ltb-false, not-true, not-from-false, not-false, ne-eqb, eqb-true, eqb-false, cases-eq, both-ways, cases-bool}
-use Rattle.sheet.specs.Graph.{Graph, parcels, entries, row-start, row-end, other, In-row, mirror}
+use Rattle.std.proofs.shelf.Tests.{and-parts, and-from, lt-ltb, not-true, not-from-false, ne-eqb, eqb-false, cases-eq, both-ways}
+use Rattle.sheet.specs.Graph.{Graph, parcels, entries, row-start, other, In-row}
 use Rattle.sheet.specs.Check.{Sound}
-use Rattle.pairing.proofs.Entries.{other-below, other-not-own, place-below, mirror-in, mirror-names, mirror-is}
+use Rattle.pairing.proofs.Entries.{other-below, other-not-own, place-below}
 use Rattle.choosing.specs.Top.{Top}
 use Rattle.records.specs.Records.{record-of, state, choice, chosen-place, chosen, Records-pair}
 use Rattle.records.specs.declared.Record.{Record}
-use Rattle.outright.specs.Pointing.{free, Points, Best, Bare, Kept}
+use Rattle.outright.specs.Pointing.{free, Best, Kept}
 use Rattle.outright.specs.Settling.{Settles, stays-lone, waits, pairs}
 
 -- one record is written

@@ -1,12 +1,11 @@
 -- When nobody is left to settle, the records hold the greedy pairing. Assumes nothing.
 use mathlib.Core.Path.{_≡_, refl, sym, ap, subst, _∙_}
-use mathlib.Core.Bool.{Bool, true, false, _&&_, _||_}
+use mathlib.Core.Bool.{Bool, true, _&&_}
 use mathlib.Core.List.{List}
 use mathlib.Core.Logic.{_⊎_, inl, inr, ⊎-elim}
-use Prim.Native.Nat.{ℕ, zero, suc, _+_, _-_, _≤_, _<_, min, max}
+use Prim.Native.Nat.{ℕ, zero, suc, _<_}
 use native.Mathlib.Omega.{arith}
-use lib.Dec.{eqb, ltb}
-use lib.ListN.{length}
+use lib.Dec.{eqb}
 use Rattle.std.specs.shelf.Lists.{kept-by, countBy}
 use Rattle.std.proofs.shelf.Tests.{and-parts, and-from, eq-eqb, eqb-true, or-cases, cases-eq, cases-lt, cases-bool}
 use Rattle.std.proofs.shelf.Ways.{tells}
@@ -16,16 +15,16 @@ use Rattle.matching.specs.Stable.{Beaten, Stable}
 use Rattle.matching.proofs.Members.{kept-was, kept-stays, count-lt}
 use Rattle.matching.proofs.Greedy.{greedy-stable}
 use Rattle.matching.proofs.Stable.{only-one}
-use Rattle.sheet.specs.Graph.{Graph, parcels, row-start, row-end, other, In-row, mirror}
+use Rattle.sheet.specs.Graph.{Graph, parcels, other, In-row, mirror}
 use Rattle.sheet.specs.Check.{Sound, Alike}
 use Rattle.pairing.specs.Pairs.{joint, sheet-pairs}
 use Rattle.pairing.specs.Above.{above, entry-above, greedy-pairing}
 use Rattle.pairing.proofs.Entries.{other-below, other-not-own, mirror-in, mirror-names}
 use Rattle.pairing.proofs.Members.{joint-back, joint-up, pair-in, pair-from}
 use Rattle.pairing.proofs.Orders.{above-ordered, row-above}
-use Rattle.records.specs.Records.{state, choice, chosen-place, chosen, Records-pair, Records-lone, Entire}
+use Rattle.records.specs.Records.{state, chosen-place, chosen, Records-pair, Entire}
 use Rattle.records.specs.declared.Record.{Record}
-use Rattle.outright.specs.Pointing.{Points, Settled, Kept}
+use Rattle.outright.specs.Pointing.{Settled, Kept}
 use Rattle.outright.proofs.Keeping.{below-choice, either-above}
 
 joint-holds : (u v : ℕ) → holds (joint u v) u ≡ true

@@ -2,10 +2,10 @@
 use mathlib.Core.Path.{_≡_, refl, sym, ap, subst, _∙_}
 use mathlib.Core.Bool.{Bool, true, false, not, _&&_, _||_}
 use mathlib.Core.List.{List}
-use mathlib.Core.Logic.{_⊎_, inl, inr, ⊎-elim}
-use Prim.Native.Nat.{ℕ, _+_, _-_, _≤_, _<_}
+use mathlib.Core.Logic.{inl, inr, ⊎-elim}
+use Prim.Native.Nat.{ℕ, _+_, _<_}
 use native.Mathlib.Omega.{arith}
-use lib.Dec.{eqb, ltb}
+use lib.Dec.{ltb}
 use lib.ListN.{length}
 use Rattle.std.proofs.shelf.Tests.{cases-eq}
 use Rattle.std.proofs.shelf.Ways.{tells}
@@ -17,7 +17,7 @@ use Rattle.pairing.specs.Above.{entry-above}
 use Rattle.pairing.proofs.Entries.{other-below, other-not-own, mirror-in, mirror-names}
 use Rattle.records.specs.Records.{record-of, state, choice, chosen-place, chosen, Records-pair}
 use Rattle.records.specs.declared.Record.{Record}
-use Rattle.outright.specs.Pointing.{Points, Settled, Best, Bare, Answered, Kept}
+use Rattle.outright.specs.Pointing.{Points, Best, Bare, Answered, Kept}
 use Rattle.outright.proofs.Changes.{Now, same, lone, waiting, paired}
 
 no-both : (pq qp : Bool) (p q : ℕ) → (qp ≡ false → pq ≡ true) → (not qp || ((pq && qp) && ltb q p)) ≡ true → (not pq || ((qp && pq) && ltb p q)) ≡ true → ⊥

@@ -2,23 +2,22 @@
 use mathlib.Core.Path.{_≡_, refl, sym, ap, subst, _∙_}
 use mathlib.Core.Bool.{Bool, cond}
 use mathlib.Core.List.{List, [], _∷_}
-use mathlib.Core.Logic.{_⊎_, inl, inr, ⊎-elim}
+use mathlib.Core.Logic.{inl, ⊎-elim}
 use Prim.Native.Nat.{ℕ, suc, _+_, _≤_, _<_}
 use native.Mathlib.Omega.{arith}
 use lib.Dec.{eqb}
 use lib.ListN.{length, getD}
-use Rattle.std.specs.shelf.Lists.{countBy}
 use Rattle.std.proofs.shelf.Lists.{getD-past}
 use Rattle.std.proofs.shelf.Sums.{sumBy-cons, countBy-le-length}
 use Rattle.std.proofs.shelf.Tests.{cases-eq, cases-lt}
 use Rattle.ranking.specs.Law.{Lawful}
-use Rattle.sheet.specs.Graph.{Graph, parcels, row-start, row-end, other, In-row, mirror}
+use Rattle.sheet.specs.Graph.{Graph, parcels, row-end, other, In-row, mirror}
 use Rattle.sheet.specs.Check.{Sound}
 use Rattle.pairing.proofs.Entries.{mirror-in, mirror-names}
-use Rattle.records.specs.Records.{record-of, state, chosen-place, chosen}
+use Rattle.records.specs.Records.{state, chosen-place, chosen}
 use Rattle.records.specs.declared.Record.{Record}
-use Rattle.outright.specs.Pointing.{Points, Settled, Kept}
-use Rattle.outright.specs.Settling.{paired-count, Listing, Ready, Settles, Onward, All-settled, None-waits-at, All-renewed}
+use Rattle.outright.specs.Pointing.{Settled}
+use Rattle.outright.specs.Settling.{paired-count, Ready, Settles, Onward, All-settled, None-waits-at, All-renewed}
 use Rattle.outright.proofs.Advancing.{settles-ready, settles-self, settles-onward, leaves, stays-idle, onward-on}
 
 none-counted : (rs : List Record) → ((u : ℕ) → state rs u ≡ 0) → paired-count rs ≡ 0

@@ -7,7 +7,7 @@ ghost use denote.Ref.{now};
 ghost use lib.Dec.{eqb};
 ghost use lib.ListN.{length, set};
 ghost use Rattle.std.specs.declared.result.Result.the-variants.{Ok, Err};
-ghost use Rattle.sheet.specs.Graph.{parcels, entries, fitted};
+ghost use Rattle.sheet.specs.Graph.{parcels, entries};
 ghost use Rattle.sheet.specs.View.{graph};
 ghost use Rattle.sheet.specs.Held.{held};
 ghost use Rattle.choosing.specs.Top.{Choice};

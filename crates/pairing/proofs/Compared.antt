@@ -1,9 +1,9 @@
 -- The greedy pairing of a sheet against other lists of its pairs, by keys and in cents. Assumes nothing.
-use mathlib.Core.Path.{_≡_, refl, sym, ap, _∙_}
+use mathlib.Core.Path.{_≡_, ap, _∙_}
 use mathlib.Core.Bool.{Bool, true, false, not, _&&_, _||_}
 use mathlib.Core.List.{List, [], _∷_}
 use mathlib.Core.Logic.{⊎-elim}
-use Prim.Native.Nat.{ℕ, _≤_}
+use Prim.Native.Nat.{_≤_}
 use native.Mathlib.Omega.{arith}
 use Rattle.std.specs.declared.option.Option.{Option}
 use Rattle.std.specs.declared.option.Option.the-variants.{Some, None}
@@ -15,12 +15,12 @@ use Rattle.ranking.specs.Kinds.{cents-atleast}
 use Rattle.ranking.specs.declared.Cents.{Cents}
 use Rattle.ranking.proofs.Lifted.{lifted-lawful}
 use Rattle.matching.specs.Pairs.{Pair}
-use Rattle.matching.specs.Half.{Pairing, Answers}
+use Rattle.matching.specs.Half.{Answers}
 use Rattle.matching.proofs.Half.{two-to-a-pair, at-least-half}
 use Rattle.sheet.specs.Graph.{Graph}
 use Rattle.pairing.specs.Pairs.{sheet-pairs, pair-key}
-use Rattle.pairing.specs.Above.{later, stands-above, above, greedy-pairing}
-use Rattle.pairing.specs.Theorems.{Matches, Matched, Two-for-one, cents-of, pair-cents, Half-the-cents}
+use Rattle.pairing.specs.Above.{later, above, greedy-pairing}
+use Rattle.pairing.specs.Theorems.{Matches, Two-for-one, cents-of, pair-cents, Half-the-cents}
 use Rattle.pairing.proofs.Keys.{itself}
 use Rattle.pairing.proofs.Orders.{above-ordered}
 

@@ -1,11 +1,10 @@
 -- The entries of a sound sheet: where each stands, what it names, and its mirror. Assumes nothing.
 use mathlib.Core.Path.{_≡_, refl, sym, ap, subst, _∙_}
-use mathlib.Core.Bool.{true, false, cond}
 use mathlib.Core.List.{List}
-use mathlib.Core.Logic.{inl, inr, ⊎-elim}
+use mathlib.Core.Logic.{⊎-elim}
 use Prim.Native.Nat.{ℕ, zero, suc, _+_, _-_, _≤_, _<_}
 use native.Mathlib.Omega.{arith}
-use lib.Dec.{eqb, ltb}
+use lib.Dec.{eqb}
 use lib.ListN.{getD}
 use Rattle.std.proofs.shelf.Tests.{eqb-true, eqb-false, ltb-true, cond-both, cases-order, cases-eq}
 use Rattle.sheet.specs.Graph.{Graph, parcels, entries, row-start, row-end, other, In-row, first-place, place-of, mirror}

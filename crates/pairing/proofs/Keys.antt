@@ -1,14 +1,13 @@
 -- Either key of a pair serves: they rank alike. Assumes nothing.
-use mathlib.Core.Path.{_≡_, refl, sym, ap, subst, _∙_}
-use mathlib.Core.Bool.{Bool, true, false, cond, _&&_}
+use mathlib.Core.Path.{_≡_, sym, ap, subst, _∙_}
+use mathlib.Core.Bool.{Bool, true}
 use mathlib.Core.Logic.{_⊎_, inl, inr, ⊎-elim}
 use Prim.Native.Nat.{ℕ, _<_}
 use native.Mathlib.Omega.{arith}
 use lib.Dec.{ltb}
-use Rattle.std.specs.declared.option.Option.{Option}
 use Rattle.std.specs.declared.option.Option.the-variants.{None}
 use Rattle.std.proofs.shelf.Tests.{lt-ltb, and-parts, cond-true, cases-lt, cases-eq, cases-bool}
-use Rattle.ranking.specs.Law.{Lawful, lifted, alike}
+use Rattle.ranking.specs.Law.{Lawful, lifted}
 use Rattle.ranking.proofs.Lifted.{lifted-lawful}
 use Rattle.sheet.specs.Graph.{Graph, row-end, other, key, In-row, place-of, mirror}
 use Rattle.sheet.specs.Check.{Sound, Alike}

@@ -1,20 +1,19 @@
 -- The pairs of a sheet are its entries, each with its mirror. Assumes nothing.
 use mathlib.Core.Path.{_≡_, refl, sym, ap, subst, _∙_}
-use mathlib.Core.Bool.{Bool, true, false, cond}
 use mathlib.Core.List.{List, [], _∷_, _++_, map}
 use mathlib.Core.Logic.{_⊎_, inl, inr, ⊎-elim}
-use Prim.Native.Nat.{ℕ, zero, suc, _+_, _-_, _≤_, _<_, min, max}
+use Prim.Native.Nat.{ℕ, zero, suc, _+_, _-_, _<_, min, max}
 use native.Mathlib.Omega.{arith}
 use lib.Dec.{ltb}
-use lib.ListN.{length, getD, take, drop}
+use lib.ListN.{length, getD}
 use Rattle.std.specs.shelf.Lists.{kept-by}
 use Rattle.std.proofs.shelf.Lists.{getD-take, getD-drop, length-take, length-drop}
 use Rattle.std.proofs.shelf.Tests.{ltb-true, lt-ltb, both-ways, cond-both, cases-lt, cases-eq}
 use Rattle.matching.specs.Pairs.{Pair, _∈_}
-use Rattle.sheet.specs.Graph.{Graph, parcels, entries, row-start, row-end, other, In-row, mirror}
+use Rattle.sheet.specs.Graph.{Graph, parcels, row-start, row-end, other, In-row, mirror}
 use Rattle.sheet.specs.Check.{Sound}
 use Rattle.pairing.specs.Pairs.{joint, row, upward, pairs-below, sheet-pairs}
-use Rattle.pairing.proofs.Entries.{row-facts, other-below, other-not-own, mirror-in, mirror-names}
+use Rattle.pairing.proofs.Entries.{row-facts, other-not-own, mirror-in, mirror-names}
 
 in-front : (xs ys : List Pair) (q : Pair) → q ∈ xs → q ∈ (xs ++ ys)
 in-front [] ys q m = absurd m

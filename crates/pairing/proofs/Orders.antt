@@ -1,13 +1,13 @@
 -- The pairs of a sheet are strictly ordered, and within a row the order goes by the entries. Assumes nothing.
-use mathlib.Core.Path.{_≡_, refl, sym, ap, subst, _∙_}
+use mathlib.Core.Path.{_≡_, refl, sym, ap, _∙_}
 use mathlib.Core.Bool.{Bool, true, false, not, _&&_, _||_}
-use mathlib.Core.Logic.{_⊎_, inl, inr, ⊎-elim}
-use Prim.Native.Nat.{ℕ, _<_, _≤_, min, max}
+use mathlib.Core.Logic.{_⊎_, ⊎-elim}
+use Prim.Native.Nat.{ℕ}
 use native.Mathlib.Omega.{arith}
 use lib.Dec.{ltb, eqb}
-use Rattle.std.proofs.shelf.Tests.{both-ways, lt-ltb, le-ltb, cases-lt, cases-order, cases-bool, and-parts}
+use Rattle.std.proofs.shelf.Tests.{lt-ltb, le-ltb, cases-order, cases-bool}
 use Rattle.std.proofs.shelf.Ways.{tells}
-use Rattle.ranking.specs.Law.{Lawful, lifted, alike}
+use Rattle.ranking.specs.Law.{Lawful, lifted}
 use Rattle.ranking.proofs.Lifted.{lifted-lawful}
 use Rattle.matching.specs.Pairs.{Pair, Ordered}
 use Rattle.sheet.specs.Graph.{Graph, other, key, In-row}

@@ -1,6 +1,6 @@
 -- Small sheets and their greedy pairings. Assumes nothing.
 use mathlib.Core.Path.{_≡_}
-use mathlib.Core.List.{List, [], _∷_}
+use mathlib.Core.List.{[], _∷_}
 use Prim.Native.Nat.{ℕ}
 use Rattle.ranking.specs.Kinds.{cents-atleast, staged-atleast, cents-key, staged-key}
 use Rattle.ranking.specs.declared.Cents.{Cents}

@@ -1,6 +1,6 @@
 -- The pairs of a sheet. Assumes nothing.
-use mathlib.Core.Bool.{Bool, cond}
-use mathlib.Core.List.{List, [], _∷_, _++_, map}
+use mathlib.Core.Bool.{cond}
+use mathlib.Core.List.{List, [], _++_, map}
 use Prim.Native.Nat.{ℕ, zero, suc, _-_, min, max}
 use lib.Dec.{ltb}
 use lib.ListN.{take, drop}

@@ -1,11 +1,9 @@
-use mathlib.Core.Path.{_≡_, sym, subst}
-use mathlib.Core.Bool.{Bool, true}
+use mathlib.Core.Path.{sym, subst}
+use mathlib.Core.Bool.{Bool}
 use Prim.Native.Nat.{ℕ}
-use Rattle.std.specs.declared.option.Option.{Option}
 use Rattle.sheet.specs.Graph.{In-row}
 use Rattle.sheet.specs.View.{graph}
 use Rattle.sheet.specs.Held.{held}
-use Rattle.sheet.specs.declared.tables.Tables.{Tables}
 use Rattle.choosing.proofs.Tops.{Sofar, Answer, passed, goes-up, stays}
 use Rattle.choosing.proofs.top_entry.Needs as need
 use Rattle.choosing.proofs.top_entry.Needs.{then-stands-at·then-no-lower, else-stands-at, else-stands-at·by·then-stands-at·else-no-lower, else-stands-at·by·else-stands-at}

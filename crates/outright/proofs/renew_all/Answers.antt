@@ -1,7 +1,5 @@
-use Prim.Native.Nat.{_<_, _≤_}
 use native.Mathlib.Omega.{arith}
-use lib.ListN.{length, getD}
-use Rattle.sheet.specs.Graph.{parcels}
+use lib.ListN.{getD}
 use Rattle.sheet.specs.Held.{held}
 use Rattle.sheet.proofs.Facts.{sized-facts}
 use Rattle.outright.proofs.Running.{paired-within, listed-few, through-more, through-all}

@@ -1,4 +1,4 @@
-use mathlib.Core.Path.{sym, subst}
+use mathlib.Core.Path.{subst}
 use Prim.Native.Nat.{_<_, _≤_}
 use native.Mathlib.Omega.{arith}
 use Rattle.sheet.specs.Graph.{parcels}
