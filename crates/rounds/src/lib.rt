@@ -150,7 +150,12 @@ pub fn run<K: Ranking, L: Line>(
 ///
 /// Refuses what `open` refuses, and then alters nothing. On a sheet whose two sides rank alike it refuses nothing else:
 /// the round ends settled, and the records hold the greedy pairing entire.
-pub fn settle<K: Ranking, L: Line>(sheet: &Sheet<K>, records: &mut [Record], marks: &mut [u8], line: &mut L) -> Result<Totals, Fault>
+pub fn settle<K: Ranking, L: Line>(
+    sheet: &Sheet<K>,
+    records: &mut [Record],
+    marks: &mut [u8],
+    line: &mut L,
+) -> Result<Totals, Fault>
     ensures did { λ r. ⌜ Settling (K·Ranking .atleast) (held (now (sheet .entry))) (λ x. world (L·Line .waiting) (L·Line .capacity) (L·Line .chosen) x (now (records .exit)) (now (marks .exit)) (now (line .exit))) (λ k p. Open-refused (held (now (sheet .entry))) (now (records .entry)) (now (marks .entry)) (L·Line .waiting (now (line .entry))) (L·Line .capacity (now (line .entry))) k p × (now (records .exit) ≡ now (records .entry)) × (now (marks .exit) ≡ now (marks .entry)) × (now (line .exit) ≡ now (line .entry))) r ⌝ }
     ensures settles { λ r. ⌜ (Alike (K·Ranking .atleast) (held (now (sheet .entry))) → Settles-or-unopened (K·Ranking .atleast) (held (now (sheet .entry))) (λ x. world (L·Line .waiting) (L·Line .capacity) (L·Line .chosen) x (now (records .exit)) (now (marks .exit)) (now (line .exit))) (λ k p. Open-refused (held (now (sheet .entry))) (now (records .entry)) (now (marks .entry)) (L·Line .waiting (now (line .entry))) (L·Line .capacity (now (line .entry))) k p × (now (records .exit) ≡ now (records .entry)) × (now (marks .exit) ≡ now (marks .entry)) × (now (line .exit) ≡ now (line .entry))) r) ⌝ }
     ensures ready { λ r. ⌜ (Alike (K·Ranking .atleast) (held (now (sheet .entry))) → Ready (held (now (sheet .entry))) (now (records .entry)) (now (marks .entry)) (L·Line .waiting (now (line .entry))) (L·Line .capacity (now (line .entry))) → Does-not-refuse r) ⌝ }
