@@ -1,22 +1,26 @@
-//! Reads a cents sheet from standard input, pairs it, and prints the pairs, or why the sheet is refused.
+//! Reads a cents sheet from standard input, settles a round of it over a queue, and prints the result text, or why the
+//! sheet is refused.
 ghost use mathlib.Core.Path.{_≡_};
 ghost use Prim.Native.Nat.{min};
 ghost use lib.ListN.{length, take};
 use faults::Fault;
 use faults::ROOM;
-use outright::pair_outright;
+use lines::BLANK;
+use lines::queue::Queue;
+use lines::queue::QueueLine;
 use ranking::Cents;
 use ranking::CentsRanking;
 use reading::read;
 use records::IDLE;
 use records::Record;
-use records::parcel_count;
-use records::partner_above;
+use results::result_text;
+use rounds::settle;
 use sheet::Sheet;
 use sheet::Tables;
 use sheet::check;
 use std::io;
 use std::io::Read;
+use std::io::Write;
 
 const MOST_BYTES: usize = 65_536;
 
@@ -24,7 +28,10 @@ const MOST_PARCELS: usize = 64;
 
 const MOST_ENTRIES: usize = 512;
 
-const BLANK: Record = Record {
+// The longest result text of so many parcels is far shorter.
+const MOST_RESULT: usize = 1_024;
+
+const IDLE_RECORD: Record = Record {
     state: IDLE,
     choice: 0,
 };
@@ -67,23 +74,19 @@ fn front<T>(table: &[T], count: usize) -> &[T]
     &table[..table.len().min(count)]
 }
 
-// Prints one line for each recorded pair, rising by the lower parcel.
-fn print_pairs(rt: &LibcRuntime, sheet: &Sheet<Cents>, records: &[Record]) -> io::Result<()> {
-    for u in 0..parcel_count(sheet) {
-        if let Some(v) = partner_above(sheet, records, u) {
-            println!(rt, "{u},{v}")?;
-        }
-    }
-    Ok(())
-}
-
-// Pairs the sheet and prints its pairs.
+// Pairs the sheet in a round over a queue, and prints the result text.
 fn print_pairing(rt: &LibcRuntime, sheet: &Sheet<Cents>) -> Result<(), Stop> {
-    let mut places = [BLANK; MOST_PARCELS];
-    let mut worklist = [0; MOST_PARCELS];
-    let records = &mut places[..MOST_PARCELS.min(parcel_count(sheet) as usize)];
-    pair_outright(sheet, records, &mut worklist)?;
-    print_pairs(rt, sheet, records)?;
+    let mut places = [IDLE_RECORD; MOST_PARCELS];
+    let mut bits = [0; MOST_ENTRIES];
+    let mut slots = [BLANK; MOST_ENTRIES];
+    let mut buffer = [0; MOST_RESULT];
+    let tables = sheet.tables();
+    let records = &mut places[..MOST_PARCELS.min(tables.stores.len())];
+    let marks = &mut bits[..MOST_ENTRIES.min(tables.others.len())];
+    let mut queue = Queue::new(&mut slots, MOST_ENTRIES as u32);
+    let totals = settle(sheet, records, marks, &mut queue)?;
+    let count = result_text(sheet, records, totals, &mut buffer)?;
+    rt.stdout().write_all(front(&buffer, count))?;
     Ok(())
 }
 
