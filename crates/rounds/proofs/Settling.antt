@@ -1,4 +1,4 @@
--- A round that was opened and run until it ended can be closed, by the law alone. Assumes nothing.
+-- A round that was opened and run until it ended can be closed, by the law. Assumes nothing.
 use mathlib.Core.Path.{_≡_, refl, sym, ap, subst, _∙_}
 use mathlib.Core.Bool.{Bool, true, false, _&&_}
 use mathlib.Core.List.{List, [], _∷_}
