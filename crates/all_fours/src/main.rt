@@ -1,5 +1,7 @@
 //! Pairs every sheet of four parcels with keys 0 to 2 in three ways, in rounds over both kinds of line and outright, and
 //! says what came of it and on how many sheets the three were apart.
+#![tactic(auto)]
+
 use lines::BLANK;
 use lines::pigeonholes::Pigeonholes;
 use lines::queue::Queue;

@@ -1,5 +1,7 @@
 //! Chains of notes, one for each store, in one pool of places: the tables, what they mean, and the theory of the moves
 //! between chains. The calls that move notes stand in the crate above.
+#![tactic(auto)]
+
 use line::Note;
 
 /// A place for one note. On a chain, it names the place behind it.

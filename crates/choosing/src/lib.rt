@@ -1,4 +1,6 @@
 //! Choosing: the top entry among the candidates of a parcel's row.
+#![tactic(auto)]
+
 ghost use Rattle.std.specs.Prelude.{◌≡◌, ℕ, ◌<◌, Bool, true, length, IfSome, MatchOption};
 ghost use Rattle.std.specs.List.{slice_get};
 ghost use Rattle.ranking.specs.Law.{lifted};

@@ -1,5 +1,7 @@
 //! What C calls: the check and the pairing of a cents sheet's text, within the full limits, in memory on the stack.
 //! include/wool.h declares it.
+#![tactic(auto)]
+
 ghost use Rattle.std.specs.Prelude.{◌≡◌, ℕ, length, Result, ◌≢◌};
 ghost use Rattle.sheet_text.specs.Within.{CheckingWithin, PairingWithin};
 ghost use Rattle.door.specs.Answers.{Answers, Decides, Short};

@@ -1,4 +1,5 @@
 //! The numbers of the refusals, each in one place. docs/FAULTS.md says when each is given, and with which place.
+#![tactic(auto)]
 
 /// What refuses a call: the fault's number, and the place at which it was found.
 pub type Fault = (u32, u32);

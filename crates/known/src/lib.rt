@@ -1,4 +1,6 @@
 //! Small sheets of which everything is known: what the definitions of this repository say of them is what the trade says.
+#![tactic(auto)]
+
 ghost use Rattle.known.specs.Known.{KnownSheets};
 
 /// The known sheets, as one list of facts about the meanings: pairings, refusals, and the first turns of a round.

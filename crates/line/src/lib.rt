@@ -1,5 +1,7 @@
 //! Lines, which carry notes between stores. What a line means is the collection of the notes that wait on it and a
 //! capacity that never changes; docs/LINES.md has the rules in full.
+#![tactic(auto)]
+
 ghost use Rattle.std.specs.Prelude.{◌≡◌, ℕ, ◌-◌, List, [], ◌∷◌, length, Option};
 ghost use Rattle.line.specs.declared.Note.{Note};
 ghost use Rattle.line.specs.Law.{Lawful};

@@ -1,5 +1,7 @@
 //! Lines made of chains of notes, one for each store, in one pool of places that is lent: a note that is put takes a free
 //! place, and a note that is taken frees its place. Each call but `new` takes constant time, however many notes wait.
+#![tactic(auto)]
+
 ghost use Rattle.std.specs.Prelude.{◌≡◌, length};
 ghost use Rattle.lines.specs.Asked.{ask_answer};
 

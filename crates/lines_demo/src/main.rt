@@ -1,4 +1,6 @@
 //! Drives a queue and pigeonholes through one script of puts and takes, and prints where their answers part.
+#![tactic(auto)]
+
 ghost use Rattle.std.specs.Prelude.{◌≡◌};
 ghost use Rattle.lines_demo.specs.Played.{played};
 

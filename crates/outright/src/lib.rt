@@ -1,5 +1,7 @@
 //! Outright pairing: the greedy pairing of a sheet, found without sorting. Each parcel points at its best free entry;
 //! two parcels that point at each other are paired, and only those that pointed at one of them look again.
+#![tactic(auto)]
+
 ghost use Rattle.std.specs.Prelude.{◌≡◌, ℕ, ◌+◌, ◌<◌, ◌≤◌, ◌&&◌, length, set, Ok, Err, ◌==◌, ◌≢◌};
 ghost use Rattle.sheet.specs.Graph.{parcels, entries};
 ghost use Rattle.sheet.specs.View.{graph};

@@ -1,4 +1,6 @@
 //! The greedy pairing of a sheet. Each function stands for one theorem, which its contract names.
+#![tactic(auto)]
+
 ghost use Rattle.pairing.specs.Examples.{KnownPairings};
 ghost use Rattle.pairing.specs.Theorems.{PairsAreEntries, UsesNoneTwice, LeavesOnlyBeaten, IsTheOnlyOne, TiesByNumber, EitherKeyServes, RowsInOrder, TwoForOne, HalfTheCents};
 

@@ -1,5 +1,7 @@
 //! Reads a cents sheet from standard input, settles a round of it over a queue, and prints the result text, or why the
 //! sheet is refused.
+#![tactic(auto)]
+
 ghost use Rattle.std.specs.Prelude.{◌≡◌, ◌<◌, ◌≤◌, min, length, take, Err};
 ghost use Rattle.sheet_text.specs.Within.{PairingWithin};
 

@@ -1,4 +1,5 @@
 //! The protocol of rounds: what its calls do, and the law that holds after every list of them.
+#![tactic(auto)]
 
 /// How a run ended.
 #[derive(Clone, Copy)]

@@ -1,4 +1,6 @@
 //! Rankings: which of two keys is at least as high, and how a key is read from text.
+#![tactic(auto)]
+
 ghost use Rattle.std.specs.Prelude.{◌≡◌, ℕ, Bool, ◌⊎◌};
 ghost use Rattle.ranking.specs.Law.{Lawful};
 ghost use Rattle.ranking.specs.Kinds.{cents_atleast, staged_atleast, cents_key, staged_key};

@@ -1,4 +1,6 @@
 //! A sheet's text is read into tables that the caller lends. docs/TEXT.md has the form of the text.
+#![tactic(auto)]
+
 ghost use Rattle.std.specs.Prelude.{Decides};
 ghost use Rattle.reading.specs.Examples.{Examples};
 ghost use Rattle.reading.specs.Outcome.{tables, Within, Room, Read};

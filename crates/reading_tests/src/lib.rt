@@ -1,4 +1,5 @@
 //! Texts that are read or refused, with the number and the place of each refusal.
+#![tactic(auto)]
 
 #[cfg(test)]
 mod tests {

@@ -1,4 +1,6 @@
 //! Records: what each parcel has come to in a pairing, and what is counted of them.
+#![tactic(auto)]
+
 ghost use Rattle.std.specs.Prelude.{◌≡◌, ℕ, ◌<◌, ◌≤◌, true, length, Ok, Err};
 ghost use Rattle.sheet.specs.Graph.{parcels, sized, fitted};
 ghost use Rattle.sheet.specs.View.{graph};

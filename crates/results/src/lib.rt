@@ -1,4 +1,6 @@
 //! What is said of records once a pairing is done: what the pairs are worth, and the result text.
+#![tactic(auto)]
+
 ghost use Rattle.results.specs.Example.{RowOfFour};
 ghost use Rattle.results.specs.Numbers.{ReadsBack};
 

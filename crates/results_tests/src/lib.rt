@@ -1,4 +1,6 @@
 //! Records, their worth and the result text on small sheets.
+#![tactic(auto)]
+
 #[cfg(test)]
 mod tests {
     use faults::Fault;

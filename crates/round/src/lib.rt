@@ -1,4 +1,6 @@
 //! A round between stores: open, start, fetch and close.
+#![tactic(auto)]
+
 mod choose;
 mod closing;
 mod fetching;

@@ -1,4 +1,6 @@
 //! Rounds on a small sheet: turns in other orders, both kinds of line, and what is refused.
+#![tactic(auto)]
+
 #[cfg(test)]
 mod tests {
     use faults::Fault;

@@ -1,4 +1,6 @@
 //! A sheet: its tables, lent by the caller, and the check that makes a checked sheet of them.
+#![tactic(auto)]
+
 mod checked;
 mod checking;
 mod tables;

@@ -1,5 +1,6 @@
 //! Sheets that pass and sheets that are refused, with the number and the place of each refusal, from the text through
 //! the check, and from tables.
+#![tactic(auto)]
 
 #[cfg(test)]
 mod tests {

@@ -1,4 +1,6 @@
 //! From the text of a cents sheet to its pairing, in memory that the caller lends.
+#![tactic(auto)]
+
 ghost use Rattle.std.specs.Prelude.{◌≡◌, ◌≤◌, length};
 ghost use Rattle.ranking.specs.Kinds.{cents_atleast};
 ghost use Rattle.reading.specs.Outcome.{tables, Room};

@@ -1,4 +1,6 @@
 //! A text is read by lines, a line by fields, and a field as a number. What is handed out is a part of the text.
+#![tactic(auto)]
+
 ghost use Rattle.std.specs.Prelude.{◌≤◌, length};
 
 mod decimal;
