@@ -9,5 +9,5 @@ returns c =
       sized = record { tables = search rules; records = search rules; marks = search rules; slots = search rules };
       out_before = refl;
       out_after = refl;
-      pairing = c.pair-text.ensures;
+      pairing = c.pair_text.ensures;
     }

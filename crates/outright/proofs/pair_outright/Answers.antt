@@ -24,8 +24,8 @@ pub returns : goal.returns
 returns g c =
     let sheet = c.args.sheet.now in
     let t = held sheet in
-    let rs = c.renew-all.new.records in
-    let after = c.renew-all.ensures in
+    let rs = c.renew_all.new.records in
+    let after = c.renew_all.ensures in
     record {
       room = subst (λ x. parcels (graph x) ≤ length c.args.worklist.now) c.tables.ensures c.if-worklist-parcels.false;
       long = subst (λ x. length c.args.records.now ≡ parcels (graph x)) c.tables.ensures c.if-records-parcels.false;

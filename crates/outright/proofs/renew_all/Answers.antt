@@ -4,8 +4,8 @@ use Rattle.sheet.proofs.Facts.{sized_facts}
 use Rattle.outright.proofs.Running.{paired_within, listed_few, through_more, through_all}
 use Rattle.outright.proofs.renew_all.Goals as goal
 
-pub offset-bounds-worklist-next : goal.offset-bounds-worklist-next
-offset-bounds-worklist-next g c =
+pub offset_bounds-worklist-next : goal.offset_bounds-worklist-next
+offset_bounds-worklist-next g c =
     let t = held c.args.sheet.now in
     let few = listed_few g.K.Ranking.atleast t c.loop-next.records c.loop-next.worklist c.loop-next.listed c.loop-next.invariant.ready in
     omega (arith, (sized_facts t c.args.sheet.now.sizes).parcels_few, c.loop-next-test.true)
@@ -15,8 +15,8 @@ bounds-worklist-next g c =
     let few = listed_few g.K.Ranking.atleast (held c.args.sheet.now) c.loop-next.records c.loop-next.worklist c.loop-next.listed c.loop-next.invariant.ready in
     omega (arith, c.loop-next.invariant.ready.room, c.loop-next-test.true)
 
-pub renew-at-listed-requires : goal.renew-at-listed-requires
-renew-at-listed-requires g c =
+pub renew_at-listed-requires : goal.renew_at-listed-requires
+renew_at-listed-requires g c =
     let ready = c.loop-next.invariant.ready in
     let two = ready.listing.only c.loop-next.next c.loop-next-test.true in
     let u = get_or c.loop-next.worklist c.loop-next.next 0 in
@@ -29,7 +29,7 @@ loop-next-smaller g c =
 
 pub loop-next-preserved : goal.loop-next-preserved
 loop-next-preserved g c =
-    let after = c.renew-at-listed in
+    let after = c.renew_at-listed in
     through_more g.K.Ranking.atleast (held c.args.sheet.now) c.loop-next.next c.loop-next.records c.loop-next.worklist c.loop-next.listed after.new.records after.new.worklist after.result
     c.loop-next.invariant c.loop-next-test.true after.ensures.ready after.ensures.onward after.ensures.none_waits
 

@@ -13,7 +13,7 @@ use Rattle.outright.proofs.Meeting.{Reach, reach}
 use Rattle.outright.proofs.Told.{both_hold, not_both}
 use Rattle.outright.proofs.Running.{Along, along_passed, along_more, along_all}
 use Rattle.outright.proofs.renew_at.Goals as goal
-use Rattle.outright.proofs.renew_at.Goals.{then-waits-at, else-waits-at}
+use Rattle.outright.proofs.renew_at.Goals.{then-waits_at, else-waits_at}
 
 -- the loop is at an entry of row u
 in_row : {K : Type 0} (sheet : Sheet K) (tables : Tables K) (u q : ℕ) → tables ≡ sheet.tables → u < parcels (held sheet) → row_start (graph tables) u ≤ q → q < row_end (graph tables) u → InRow (held sheet) u q
@@ -33,8 +33,8 @@ bounds-tables-q g c =
     let here = in_row sheet c.tables-tables.result c.args.u c.loop-q.q same c.requires.parcel c.loop-q.auto.q c.loop-q-test.true in
     subst (λ x. c.loop-q.q < entries (graph x)) (sym same) (place_below (held sheet) (held_sound sheet) c.args.u c.loop-q.q here)
 
-pub waits-at-requires : goal.waits-at-requires
-waits-at-requires g c =
+pub waits_at-requires : goal.waits_at-requires
+waits_at-requires g c =
     let sheet = c.args.sheet.now in
     let q = c.loop-q.q in
     let rs = c.loop-q.records in
@@ -52,7 +52,7 @@ settle-listed-requires g c =
     let same = c.tables-tables.ensures in
     let here = in_row sheet c.tables-tables.result c.args.u q same c.requires.parcel c.loop-q.auto.q c.loop-q-test.true in
     let t = graph c.tables-tables.result in
-    let one = (both_hold (state rs (other t q)) 1 (chosen t rs (other t q)) c.args.u c.if-waits-at.ensures).0 in
+    let one = (both_hold (state rs (other t q)) 1 (chosen t rs (other t q)) c.args.u c.if-waits_at.ensures).0 in
     record {
       ready = c.loop-q.invariant.ready;
       parcel = subst (λ x. other (graph x) q < parcels (held sheet)) (sym same) (other_below (held sheet) (held_sound sheet) c.args.u q here);
@@ -76,18 +76,18 @@ loop-q-preserved g c =
     let here = in_row sheet tables u q same c.requires.parcel c.loop-q.auto.q c.loop-q-test.true in
     let test : (b : Bool) → b ≡ (eqb (state rs (other (graph tables) q)) 1 && eqb (chosen (graph tables) rs (other (graph tables) q)) u) → b ≡ (eqb (state rs (other t q)) 1 && eqb (chosen t rs (other t q)) u) =
     λ b. subst (λ x. b ≡ (eqb (state rs (other (graph x) q)) 1 && eqb (chosen (graph x) rs (other (graph x) q)) u)) same in
-    elim c.if-waits-at.branch [
-      | then-waits-at w ↦
+    elim c.if-waits_at.branch [
+      | then-waits_at w ↦
           let settled = w.settle-listed in
           let rs' = settled.new.records in
           let work' = settled.new.worklist in
           let k' = settled.result in
-          let one = (both_hold (state rs (other t q)) 1 (chosen t rs (other t q)) u (test _ w.if-waits-at.ensures)).0 in
+          let one = (both_hold (state rs (other t q)) 1 (chosen t rs (other t q)) u (test _ w.if-waits_at.ensures)).0 in
           let settles = subst (λ x. Settles atleast t (other (graph x) q) rs work k rs' work' k') same settled.ensures in
           let next = along_more atleast laws t sound u c.args.records.now c.args.worklist.now c.args.listed c.requires.paired q rs work k rs' work' k' c.loop-q.invariant (other_below t sound u q here) one settles in
           moved (Along atleast t u c.args.records.now c.args.worklist.now c.args.listed (q + 1)) w.records-is w.worklist-is w.listed-is next
-      | else-waits-at w ↦
-          let next = along_passed atleast laws t sound u c.args.records.now c.args.worklist.now c.args.listed c.requires.paired q rs work k c.loop-q.invariant (not_both (state rs (other t q)) 1 (chosen t rs (other t q)) u (test _ w.if-waits-at.ensures)) in
+      | else-waits_at w ↦
+          let next = along_passed atleast laws t sound u c.args.records.now c.args.worklist.now c.args.listed c.requires.paired q rs work k c.loop-q.invariant (not_both (state rs (other t q)) 1 (chosen t rs (other t q)) u (test _ w.if-waits_at.ensures)) in
           moved (Along atleast t u c.args.records.now c.args.worklist.now c.args.listed (q + 1)) w.records-is w.worklist-is w.listed-is next
     ]
 

@@ -3,8 +3,8 @@ use Rattle.records.proofs.Listing.{lone_more_yes, lone_more_no, lone_more_past, 
 use Rattle.records.proofs.count_lone.Goals as goal
 use Rattle.records.proofs.count_lone.Goals.{then-at-records+then-records-at-eq-LONE, else-at-records, else-at-records-via-then-at-records+else-records-at-eq-LONE, else-at-records-via-else-at-records}
 
-pub overflow-add-lone : goal.overflow-add-lone
-overflow-add-lone g c = omega (arith, lone_few c.args.records.now c.loop-u.u, c.loop-u.invariant)
+pub overflow_add-lone : goal.overflow_add-lone
+overflow_add-lone g c = omega (arith, lone_few c.args.records.now c.loop-u.u, c.loop-u.invariant)
 
 pub loop-u-preserved : goal.loop-u-preserved
 loop-u-preserved g c =

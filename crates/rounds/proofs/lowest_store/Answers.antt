@@ -11,13 +11,13 @@ none_if (Some n) e = absurd (true≢false e)
 
 pub loop-s-preserved : goal.loop-s-preserved
 loop-s-preserved g c =
-    below_more (λ r. g.L.Line.chosen c.args.line.now r ≡ None) c.loop-s.s c.loop-s.invariant (sym c.next.ensures ∙ none_if c.next.result (sym c.is-some.ensures ∙ c.if-is-some.false))
+    below_more (λ r. g.L.Line.chosen c.args.line.now r ≡ None) c.loop-s.s c.loop-s.invariant (sym c.next.ensures ∙ none_if c.next.result (sym c.is_some.ensures ∙ c.if-is_some.false))
 
-pub returns-then-is-some : goal.returns-then-is-some
-returns-then-is-some g c = record {
+pub returns-then-is_some : goal.returns-then-is_some
+returns-then-is_some g c = record {
   store = subst (λ x. c.loop-s.s < (graph x).limit) c.tables-stores.ensures c.loop-s-test.true;
   none_idle = c.requires;
-  note = ap is_some (sym c.next.ensures) ∙ sym c.is-some.ensures ∙ c.if-is-some.true;
+  note = ap is_some (sym c.next.ensures) ∙ sym c.is_some.ensures ∙ c.if-is_some.true;
   lowest = c.loop-s.invariant;
 }
 

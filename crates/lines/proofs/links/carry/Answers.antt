@@ -3,8 +3,8 @@ use Rattle.chains.specs.Tables.{Moved, held}
 use Rattle.chains.proofs.Moves.{front_kept, front_moved, back_kept, back_moved, tail_within}
 use Rattle.lines.proofs.links.carry.Goals as goal
 
-pub push-back-requires : goal.push-back-requires
-push-back-requires c =
+pub push_back-requires : goal.push_back-requires
+push_back-requires c =
     let a = c.args in
     let pop = c.pop-place in (
       (omega arith, (omega arith, omega arith)),
@@ -16,7 +16,7 @@ pub returns-in-Front : goal.returns-in-Front
 returns-in-Front c =
     let a = c.args in
     let pop = c.pop-place in
-    let push = c.push-front in
+    let push = c.push_front in
     record {
       kept = front_kept a.slots.now a.heads.now a.tails.now a.capacity a.from a.note c.requires
           pop.result pop.new.heads pop.ensures.place pop.ensures.heads
@@ -31,7 +31,7 @@ pub returns-in-Back : goal.returns-in-Back
 returns-in-Back c =
     let a = c.args in
     let pop = c.pop-place in
-    let push = c.push-back in
+    let push = c.push_back in
     record {
       kept = back_kept a.slots.now a.heads.now a.tails.now a.capacity a.from a.note c.requires
           pop.result pop.new.heads pop.ensures.place pop.ensures.heads

@@ -11,7 +11,7 @@ loop-place-init c =
 pub loop-place-preserved : goal.loop-place-preserved
 loop-place-preserved c =
     let l = c.loop-place in
-    let push = c.push-front in (
+    let push = c.push_front in (
       omega arith,
       omega arith,
       omega arith,

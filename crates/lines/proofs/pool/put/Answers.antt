@@ -9,8 +9,8 @@ carry-requires c =
     let pool = c.args.pool.now in
     movable_free pool c.requires.sound c.args.note (omega arith) (omega arith) (admitted_store pool c.args.note c.requires.admitted) (admitted_room pool c.requires.sound c.args.note c.requires.admitted)
 
-pub overflow-sub-room : goal.overflow-sub-room
-overflow-sub-room c = let room = admitted_room c.args.pool.now c.requires.sound c.args.note c.requires.admitted in omega arith
+pub overflow_sub-room : goal.overflow_sub-room
+overflow_sub-room c = let room = admitted_room c.args.pool.now c.requires.sound c.args.note c.requires.admitted in omega arith
 
 pub returns : goal.returns
 returns c =

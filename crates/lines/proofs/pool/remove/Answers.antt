@@ -8,8 +8,8 @@ pub carry-requires : goal.carry-requires
 carry-requires c =
     movable_taken c.args.pool.now c.args.store c.requires.some c.requires.sound no_note refl (omega arith) (omega arith)
 
-pub overflow-add-room : goal.overflow-add-room
-overflow-add-room c = let count = free_count_of c.args.pool.now c.requires.sound in omega arith
+pub overflow_add-room : goal.overflow_add-room
+overflow_add-room c = let count = free_count_of c.args.pool.now c.requires.sound in omega arith
 
 pub returns : goal.returns
 returns c =

@@ -8,8 +8,8 @@ use Rattle.reading.proofs.checking.check_entries.Goals as goal
 pub loop-j-init : goal.loop-j-init
 loop-j-init g c = ([], refl, refl, record { fit = tt; in_order = tt; written = none refl })
 
-pub returns-in-default : goal.returns-in-default
-returns-in-default g c =
+pub returns-in_default : goal.returns-in_default
+returns-in_default g c =
     let so = c.loop-j.invariant in (
       c.loop-j.j,
       omega arith,
@@ -21,7 +21,7 @@ returns-in-default g c =
         so_many = so.1;
         wrong = λ x after fit order b.
             let low = falls_last (map row_of so.0) x.row (subst NeverFalls (map_push row_of so.0 x) order) in
-            c.in-default.ensures x after fit (omega (arith, so.2)) b;
+            c.in_default.ensures x after fit (omega (arith, so.2)) b;
       },
     )
 

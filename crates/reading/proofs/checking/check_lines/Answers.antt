@@ -8,25 +8,25 @@ use Rattle.reading.proofs.checking.check_lines.Goals as goal
 place : {f : ℕ × ℕ} (n k : ℕ) → f ≡ (1, n) → n ≡ k → f ≡ (1, k)
 place n k e h = e ∙ ap (λ i. (1, i)) h
 
-pub returns-in-err-check-parcels : goal.returns-in-err-check-parcels
-returns-in-err-check-parcels g c =
-    let p = err_from_is_err_and c.from-residual.result c.from-residual.ensures.1 in
-    let told = c.in-err-check-parcels.ensures in
+pub returns-in_err-check_parcels : goal.returns-in_err-check_parcels
+returns-in_err-check_parcels g c =
+    let p = err_from_is_err_and c.from_residual.result c.from_residual.ensures.1 in
+    let told = c.in_err-check_parcels.ensures in
     let k = told.0 in
     rw (p.1, p.2) (k + 1, place (k + 2) (k + 1 + 1) told.2 (omega arith), λ bs first. wrong_parcel first k told.1 told.3)
 
-pub returns-in-err-check-entries : goal.returns-in-err-check-entries
-returns-in-err-check-entries g c =
-    let p = err_from_is_err_and c.from-residual-in-err-check-entries.result c.from-residual-in-err-check-entries.ensures.1 in
-    let parcels = c.in-ok-check-parcels.ensures in
-    let told = c.in-err-check-entries.ensures in
+pub returns-in_err-check_entries : goal.returns-in_err-check_entries
+returns-in_err-check_entries g c =
+    let p = err_from_is_err_and c.from_residual-in_err-check_entries.result c.from_residual-in_err-check_entries.ensures.1 in
+    let parcels = c.in_ok-check_parcels.ensures in
+    let told = c.in_err-check_entries.ensures in
     let n = c.args.sizes.parcels in
     let k = told.0 in
     rw (p.1, p.2) (n + k + 1, place (n + k + 2) (n + k + 1 + 1) told.2 (omega arith), λ bs first. wrong_entry first parcels.0 parcels.2 parcels.1 k told.1 told.3)
 
-pub returns-then-not-is-at-end : goal.returns-then-not-is-at-end
-returns-then-not-is-at-end g c =
-    let parcels = c.in-ok-check-parcels.ensures in
-    let entries = c.in-ok-check-entries.ensures in
+pub returns-then-not-is_at_end : goal.returns-then-not-is_at_end
+returns-then-not-is_at_end g c =
+    let parcels = c.in_ok-check_parcels.ensures in
+    let entries = c.in_ok-check_entries.ensures in
     let n = c.args.sizes.parcels + c.args.sizes.entries in
-    (n + 1, place (n + 2) (n + 1 + 1) refl (omega arith), λ bs first. too_long first parcels.0 parcels.2 parcels.1 entries.0 entries.2 entries.1 (λ end. false≢true (c.if-not-is-at-end.ensures.1 end)))
+    (n + 1, place (n + 2) (n + 1 + 1) refl (omega arith), λ bs first. too_long first parcels.0 parcels.2 parcels.1 entries.0 entries.2 entries.1 (λ end. false≢true (c.if-not-is_at_end.ensures.1 end)))

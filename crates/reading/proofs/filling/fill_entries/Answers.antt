@@ -28,7 +28,7 @@ unreachable-requires g c =
     let less : length so.0 < length was.0 = omega (arith, so.1, was.2) in
     let next = next_entry was.0 so.5 was.3 less in
     let low = falls_last (map row_of so.0) next.0.row (subst NeverFalls (map_push row_of so.0 next.0) next.3) in
-    c.in-default.ensures next.0 next.1 next.2 (omega (arith, so.2)) next.4
+    c.in_default.ensures next.0 next.1 next.2 (omega (arith, so.2)) next.4
 
 pub loop-j-preserved : goal.loop-j-preserved
 loop-j-preserved g c =
@@ -46,8 +46,8 @@ loop-j-preserved g c =
       omega arith,
       entries_push x so.5 told.fit (omega (arith, so.2, told.in_order)) told.written,
       marks_push x (marks (low + 1) so.6 (subst (Written _ _ _ _) (sym so.1) new) above) (ap (λ n. n + 1) told.row),
-      laid_more (λ y. y.other) so.0 x _ _ _ c.loop-j.j so.7 so.1 (omega (arith, c.requires.room-for-others)) told.other,
-      laid_more (key_of g.K.Ranking.made) so.0 x _ _ _ c.loop-j.j so.8 so.1 (omega (arith, c.requires.room-for-keys)) told.key,
+      laid_more (λ y. y.other) so.0 x _ _ _ c.loop-j.j so.7 so.1 (omega (arith, c.requires.room_for_others)) told.other,
+      laid_more (key_of g.K.Ranking.made) so.0 x _ _ _ c.loop-j.j so.8 so.1 (omega (arith, c.requires.room_for_keys)) told.key,
     )
 
 pub returns : goal.returns
@@ -58,7 +58,7 @@ returns g c =
       so.0,
       all,
       so.5,
-      marks_all c.args.sizes.parcels (marks (c.args.sizes.parcels + 1) so.6 (subst (Written _ _ _ _) (sym all) new) (omega (arith, so.4))) (c.mark-2.auto.starts ∙ c.loop-j.auto.starts) c.requires.room-for-starts,
+      marks_all c.args.sizes.parcels (marks (c.args.sizes.parcels + 1) so.6 (subst (Written _ _ _ _) (sym all) new) (omega (arith, so.4))) (c.mark-2.auto.starts ∙ c.loop-j.auto.starts) c.requires.room_for_starts,
       so.7,
       so.8,
     )

@@ -4,10 +4,10 @@ use Rattle.text.specs.Rows.{Begins}
 use Rattle.reading.proofs.Lists.{three}
 use Rattle.reading.proofs.rows.first_line.Goals as goal
 
-pub returns-in-err-values : goal.returns-in-err-values
-returns-in-err-values c = rw c.from-residual.ensures (λ z rest b. c.in-err-values.ensures _ rest refl b)
+pub returns-in_err-values : goal.returns-in_err-values
+returns-in_err-values c = rw c.from_residual.ensures (λ z rest b. c.in_err-values.ensures _ rest refl b)
 
 pub returns : goal.returns
 returns c =
-    let told = c.in-ok-values.ensures in
-    subst (λ vs. Begins (vs ∷ []) (left c.args.lines.now) (left c.next-numbers.new.lines)) (three _ told.1) told.0
+    let told = c.in_ok-values.ensures in
+    subst (λ vs. Begins (vs ∷ []) (left c.args.lines.now) (left c.next_numbers.new.lines)) (three _ told.1) told.0

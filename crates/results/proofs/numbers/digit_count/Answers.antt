@@ -2,8 +2,8 @@ use Rattle.std.proofs.Common.{◌≡◌, length, decimal, arith}
 use Rattle.results.proofs.Digits.{digits_one, digits_step, digits_some, digits_few}
 use Rattle.results.proofs.numbers.digit_count.Goals as goal
 
-pub overflow-add-count : goal.overflow-add-count
-overflow-add-count c = omega (arith, c.ranges.n, c.loop-rest.invariant, digits_some c.loop-rest.rest (omega (arith, c.ranges.n, c.loop-rest.invariant.1)), digits_few c.args.n (omega (arith, c.ranges.n)))
+pub overflow_add-count : goal.overflow_add-count
+overflow_add-count c = omega (arith, c.ranges.n, c.loop-rest.invariant, digits_some c.loop-rest.rest (omega (arith, c.ranges.n, c.loop-rest.invariant.1)), digits_few c.args.n (omega (arith, c.ranges.n)))
 
 pub loop-rest-preserved : goal.loop-rest-preserved
 loop-rest-preserved c =

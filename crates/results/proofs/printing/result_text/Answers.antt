@@ -8,16 +8,16 @@ use Rattle.results.specs.Text.{totals_line, pair_line, by_records, short}
 use Rattle.results.proofs.Put.{put_front}
 use Rattle.results.proofs.printing.result_text.Goals as goal
 
-pub returns-in-err-try-records : goal.returns-in-err-try-records
-returns-in-err-try-records g c =
-    let p = err_from_is_err_and c.from-residual.result c.from-residual.ensures.1 in
-    rw (p.1, p.2) (by_records c.in-err-try-records.ensures, refl {a = c.args.buffer.now})
+pub returns-in_err-try_records : goal.returns-in_err-try_records
+returns-in_err-try_records g c =
+    let p = err_from_is_err_and c.from_residual.result c.from_residual.ensures.1 in
+    rw (p.1, p.2) (by_records c.in_err-try_records.ensures, refl {a = c.args.buffer.now})
 
-pub returns-then-buffer-line-length : goal.returns-then-buffer-line-length
-returns-then-buffer-line-length g c =
+pub returns-then-buffer-line_length : goal.returns-then-buffer-line_length
+returns-then-buffer-line_length g c =
     let first = totals_line c.args.totals in
     let rest = flat_map pair_line (lower_pairs (held c.args.sheet.now) c.args.records.now) in
-    (short c.in-ok-try-records.ensures (omega (arith, c.if-buffer-line-length.true, c.line-length.ensures.value, c.pairs-length.ensures.value, length-append first rest)), refl {a = c.args.buffer.now})
+    (short c.in_ok-try_records.ensures (omega (arith, c.if-buffer-line_length.true, c.line_length.ensures.value, c.pairs_length.ensures.value, length-append first rest)), refl {a = c.args.buffer.now})
 
 pub returns : goal.returns
 returns g c =
@@ -25,11 +25,11 @@ returns g c =
     let rest = flat_map pair_line (lower_pairs (held c.args.sheet.now) c.args.records.now) in
     let old = c.args.buffer.now in
     let long = length-append first rest in
-    let count : c.write-pairs.result ≡ length (first ++ rest) = omega (arith, c.write-pairs.ensures.end, c.write-line-at.ensures.end) in
-    let room : length (first ++ rest) ≤ length old = omega (arith, c.if-buffer-line-length.false, c.line-length.ensures.value, c.pairs-length.ensures.value) in
+    let count : c.write_pairs.result ≡ length (first ++ rest) = omega (arith, c.write_pairs.ensures.end, c.write_line-at.ensures.end) in
+    let room : length (first ++ rest) ≤ length old = omega (arith, c.if-buffer-line_length.false, c.line_length.ensures.value, c.pairs_length.ensures.value) in
     record {
-      right = c.in-ok-try-records.ensures;
+      right = c.in_ok-try_records.ensures;
       counted = count;
       fits = omega arith;
-      bytes = put_front old first rest c.write-line-at.new.buffer c.write-pairs.new.buffer c.write-line-at.result c.write-pairs.result (omega arith) c.write-line-at.ensures.bytes c.write-line-at.ensures.end c.write-pairs.ensures.bytes count;
+      bytes = put_front old first rest c.write_line-at.new.buffer c.write_pairs.new.buffer c.write_line-at.result c.write_pairs.result (omega arith) c.write_line-at.ensures.bytes c.write_line-at.ensures.end c.write_pairs.ensures.bytes count;
     }

@@ -5,8 +5,8 @@ use Rattle.results.proofs.Put.{put_none, put_put}
 use Rattle.results.proofs.printing.write_line.Goals as goal
 use Rattle.results.proofs.printing.write_line.Goals.{then-i-numbers, else-i-numbers}
 
-pub write-field-place-requires : goal.write-field-place-requires
-write-field-place-requires c =
+pub write_field-place-requires : goal.write_field-place-requires
+write_field-place-requires c =
     let ns = c.args.numbers.now in
     let n = get_or ns c.loop-i.i 0 in
     omega (arith, c.requires, c.loop-i.invariant.0, c.loop-i.auto.buffer, length_field n c.if-i-numbers.after, length_line_more ns c.loop-i.i c.loop-i-test.true)
@@ -20,7 +20,7 @@ loop-i-preserved c =
     let place = c.loop-i.place in
     let after = c.if-i-numbers.after in
     let rest = line (drop (i + 1) ns) in
-    let end = c.write-field-place.ensures.end in
+    let end = c.write_field-place.ensures.end in
     let long = length_line_more ns i c.loop-i-test.true in
     let is : after ≡ mark (drop (i + 1) ns) =
     elim c.if-i-numbers.branch [
@@ -28,7 +28,7 @@ loop-i-preserved c =
       | else-i-numbers w ↦ w.after-is ∙ mark_none ns (i + 1) (omega (arith, w.if-i-numbers.false))
     ] in (
       omega (arith, c.loop-i.invariant.0, length_field n after),
-      ap (λ x. put_in x c.write-field-place.result rest) c.write-field-place.ensures.bytes
+      ap (λ x. put_in x c.write_field-place.result rest) c.write_field-place.ensures.bytes
           ∙ ap (λ p. put_in (put_in b place (field n after)) p rest) end
           ∙ put_put b place (field n after) (omega (arith, c.requires, c.loop-i.invariant.0, c.loop-i.auto.buffer, length_field n after)) rest
           ∙ ap (λ a. put_in b place (field n a ++ rest)) is

@@ -5,10 +5,10 @@ use Rattle.results.proofs.worth_of.cents_of.Goals as goal
 use Rattle.results.proofs.worth_of.cents_of.Goals.{After-tables-tables}
 
 read : (c : goal.After-tables-tables) → Readable (graph c.tables-tables.result) c.args.records.now c.args.u
-read c = found_readable c.args.sheet.now c.args.records.now c.args.u c.partner_above.result c.partner_above.ensures c.if-is-none.ensures c.tables-tables.result c.tables-tables.ensures
+read c = found_readable c.args.sheet.now c.args.records.now c.args.u c.partner_above.result c.partner_above.ensures c.if-is_none.ensures c.tables-tables.result c.tables-tables.ensures
 
-pub returns-then-is-none : goal.returns-then-is-none
-returns-then-is-none c = share_none (held c.args.sheet.now) c.args.records.now c.args.u c.partner_above.result c.partner_above.ensures c.if-is-none.ensures
+pub returns-then-is_none : goal.returns-then-is_none
+returns-then-is_none c = share_none (held c.args.sheet.now) c.args.records.now c.args.u c.partner_above.result c.partner_above.ensures c.if-is_none.ensures
 
 pub bounds-tables-at : goal.bounds-tables-at
 bounds-tables-at c = (read c).start
@@ -24,4 +24,4 @@ returns c =
     let s = c.args.sheet.now in
     let rs = c.args.records.now in
     let u = c.args.u in
-    share_read s rs u c.tables-tables.result c.tables-tables.ensures (found_up s rs u c.partner_above.result c.partner_above.ensures c.if-is-none.ensures)
+    share_read s rs u c.tables-tables.result c.tables-tables.ensures (found_up s rs u c.partner_above.result c.partner_above.ensures c.if-is_none.ensures)

@@ -19,6 +19,6 @@ pub returns : goal.returns
 returns c =
     let t = held c.args.sheet.now in
     let rs = c.args.records.now in
-    let end : c.loop-u.u ≡ parcels t = omega (arith, c.parcel-count-u-end.ensures) in
+    let end : c.loop-u.u ≡ parcels t = omega (arith, c.parcel_count-u-end.ensures) in
     let sum = c.loop-u.invariant.0 ∙ ap (λ n. sum_by (chosen_cents t rs) (pairs_below t rs n)) end in
-    record { right = c.in-ok-try-records.ensures; chosen = sum; pairs = sum ∙ chosen_is_pair t rs (held_sound c.args.sheet.now) }
+    record { right = c.in_ok-try_records.ensures; chosen = sum; pairs = sum ∙ chosen_is_pair t rs (held_sound c.args.sheet.now) }

@@ -21,8 +21,8 @@ send-requires-in-Pairs g c =
       room = omega (arith, pairs_count g.K.Ranking.atleast t c.args.u c.args.marks.now c.args.plan c.requires.planned before c.in-Pairs.p c.in-Pairs.field-1 c.in-Pairs.is, c.requires.room);
     }
 
-pub let-go-requires : goal.let-go-requires
-let-go-requires g c =
+pub let_go-requires : goal.let_go-requires
+let_go-requires g c =
     let t = held c.args.sheet.now in
     let before = g.L.Line.waiting c.args.line.now in
     record {
@@ -45,6 +45,6 @@ returns-in-Waits g c = record {
 
 pub returns-in-Pairs : goal.returns-in-Pairs
 returns-in-Pairs g c = record {
-  done = chose_pairs g.K.Ranking.atleast (held c.args.sheet.now) c.args.u c.args.marks.now c.args.plan c.requires.planned (g.L.Line.waiting c.args.line.now) c.in-Pairs.p c.in-Pairs.field-1 c.in-Pairs.is c.with-choice-in-Pairs.result c.let-go.new.marks (g.L.Line.waiting c.send-in-Pairs.new.line) (g.L.Line.waiting c.let-go.new.line) c.with-choice-in-Pairs.ensures c.send-in-Pairs.ensures.notes c.let-go.ensures.done;
-  size = c.let-go.ensures.size ∙ c.send-in-Pairs.ensures.size;
+  done = chose_pairs g.K.Ranking.atleast (held c.args.sheet.now) c.args.u c.args.marks.now c.args.plan c.requires.planned (g.L.Line.waiting c.args.line.now) c.in-Pairs.p c.in-Pairs.field-1 c.in-Pairs.is c.with_choice-in-Pairs.result c.let_go.new.marks (g.L.Line.waiting c.send-in-Pairs.new.line) (g.L.Line.waiting c.let_go.new.line) c.with_choice-in-Pairs.ensures c.send-in-Pairs.ensures.notes c.let_go.ensures.done;
+  size = c.let_go.ensures.size ∙ c.send-in-Pairs.ensures.size;
 }

@@ -9,7 +9,7 @@ use Rattle.protocol.specs.Marks.{open', places_from}
 use Rattle.protocol.proofs.Sums.{length_places_from}
 use Rattle.round.proofs.Rows.{kept_yes, kept_not}
 use Rattle.round.proofs.choose.count_open_others.Goals as goal
-use Rattle.round.proofs.choose.count_open_others.Goals.{then-other-open, else-other-open}
+use Rattle.round.proofs.choose.count_open_others.Goals.{then-other_open, else-other_open}
 
 pub loop-q-init : goal.loop-q-init
 loop-q-init g c =
@@ -18,8 +18,8 @@ loop-q-init g c =
     let e : start - start ≡ 0 = omega arith in
     sym (ap (λ n. length (filter test (places_from n start))) e)
 
-pub overflow-add-count : goal.overflow-add-count
-overflow-add-count g c =
+pub overflow_add-count : goal.overflow_add-count
+overflow_add-count g c =
     let s = c.args.sheet.now in
     let start = c.row_start.result.0 in
     let places = places_from (c.loop-q.q - start) start in
@@ -35,9 +35,9 @@ loop-q-preserved g c =
     let q = c.loop-q.q in
     let test : ℕ → Bool = λ x. open' c.args.marks.now x && not (eqb x c.args.keep) in
     let low : start ≤ q = c.loop-q.auto.q in
-    elim c.if-other-open.branch [
-      | then-other-open w ↦ w.count-is ∙ ap (λ n. n + 1) c.loop-q.invariant ∙ sym (ap length (kept_yes test start q low (sym w.if-other-open.ensures)) ∙ length_push (filter test (places_from (q - start) start)) q)
-      | else-other-open w ↦ w.count-is ∙ c.loop-q.invariant ∙ sym (ap length (kept_not test start q low (sym w.if-other-open.ensures)))
+    elim c.if-other_open.branch [
+      | then-other_open w ↦ w.count-is ∙ ap (λ n. n + 1) c.loop-q.invariant ∙ sym (ap length (kept_yes test start q low (sym w.if-other_open.ensures)) ∙ length_push (filter test (places_from (q - start) start)) q)
+      | else-other_open w ↦ w.count-is ∙ c.loop-q.invariant ∙ sym (ap length (kept_not test start q low (sym w.if-other_open.ensures)))
     ]
 
 pub returns : goal.returns

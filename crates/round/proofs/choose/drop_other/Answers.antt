@@ -4,5 +4,5 @@ use Rattle.sheet.proofs.Held.{held_sound}
 use Rattle.pairing.proofs.Entries.{place_below}
 use Rattle.round.proofs.choose.drop_other.Goals as goal
 
-pub other-open-requires : goal.other-open-requires
-other-open-requires g c = let s = c.args.sheet.now in omega (arith, c.requires.long, place_below (held s) (held_sound s) c.args.u c.args.q c.requires.within)
+pub other_open-requires : goal.other_open-requires
+other_open-requires g c = let s = c.args.sheet.now in omega (arith, c.requires.long, place_below (held s) (held_sound s) c.args.u c.args.q c.requires.within)

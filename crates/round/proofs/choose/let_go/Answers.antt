@@ -14,8 +14,8 @@ loop-q-init g c =
     let w = g.L.Line.waiting c.args.line.now in
     (subst (λ q. Going t c.args.u c.args.keep m w q m w) (sym c.row_start.ensures.0) (going_start t c.args.u c.args.keep m w c.requires.parcel), refl)
 
-pub drop-other-requires : goal.drop-other-requires
-drop-other-requires g c =
+pub drop_other-requires : goal.drop_other-requires
+drop_other-requires g c =
     let s = c.args.sheet.now in
     let row : InRow (held s) c.args.u c.loop-q.q = record {
       parcel = c.requires.parcel;
@@ -40,8 +40,8 @@ loop-q-preserved g c =
     } in
     let inv = c.loop-q.invariant in
     let below : c.loop-q.q < length c.loop-q.marks = omega (arith, inv.0.long, c.requires.long, place_below (held s) (held_sound s) c.args.u c.loop-q.q row) in (
-      going_step (held s) c.args.u c.args.keep c.args.marks.now (g.L.Line.waiting c.args.line.now) c.loop-q.q row c.loop-q.marks (g.L.Line.waiting c.loop-q.line) inv.0 c.drop-other.new.marks (g.L.Line.waiting c.drop-other.new.line) c.requires.parcel below c.drop-other.ensures.done,
-      c.drop-other.ensures.size ∙ inv.1,
+      going_step (held s) c.args.u c.args.keep c.args.marks.now (g.L.Line.waiting c.args.line.now) c.loop-q.q row c.loop-q.marks (g.L.Line.waiting c.loop-q.line) inv.0 c.drop_other.new.marks (g.L.Line.waiting c.drop_other.new.line) c.requires.parcel below c.drop_other.ensures.done,
+      c.drop_other.ensures.size ∙ inv.1,
     )
 
 pub returns : goal.returns

@@ -6,8 +6,8 @@ use Rattle.sheet.specs.Graph.{parcels, entries}
 use Rattle.round.specs.Closing.{line_unfit, wrong_length}
 use Rattle.round.proofs.closing.open.Goals as goal
 
-pub returns-then-not-is-empty : goal.returns-then-not-is-empty
-returns-then-not-is-empty g c = (line_unfit (λ none _. both_ways c.is-empty.result c.if-not-is-empty.true (c.is-empty.ensures.1 none)), refl, refl)
+pub returns-then-not-is_empty : goal.returns-then-not-is_empty
+returns-then-not-is_empty g c = (line_unfit (λ none _. both_ways c.is_empty.result c.if-not-is_empty.true (c.is_empty.ensures.1 none)), refl, refl)
 
 pub returns-then-size-entries : goal.returns-then-size-entries
 returns-then-size-entries g c =
@@ -20,4 +20,4 @@ returns-then-records-parcels g c =
     let room : entries (held s) ≤ c.size.result = subst (λ x. entries (graph x) ≤ c.size.result) c.tables-tables.ensures c.if-size-entries.false in
     let n : length c.tables-tables.result.stores.now ≡ parcels (held s) = ap (λ x. parcels (graph x)) c.tables-tables.ensures in
     let e : length c.tables-tables.result.others.now ≡ entries (held s) = ap (λ x. entries (graph x)) c.tables-tables.ensures in
-    (wrong_length (c.is-empty.ensures.0 c.if-not-is-empty.false) (omega (arith, room, c.size.ensures)) (λ a b. ⊎_elim (λ un. un (a ∙ sym n)) (λ un. un.1 (b ∙ sym e)) c.then-records-parcels.either), refl, refl)
+    (wrong_length (c.is_empty.ensures.0 c.if-not-is_empty.false) (omega (arith, room, c.size.ensures)) (λ a b. ⊎_elim (λ un. un (a ∙ sym n)) (λ un. un.1 (b ∙ sym e)) c.then-records-parcels.either), refl, refl)

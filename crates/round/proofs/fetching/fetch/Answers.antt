@@ -18,28 +18,28 @@ returns-then-store-tables g c =
     let why = no_store (subst (λ x. (graph x).limit ≤ c.args.store) c.tables.ensures c.if-store-tables.true) in
     (why, fetch_not_accepted g.K.Ranking.atleast g.met.K.Ranking.lawful (held s) why, refl)
 
-pub returns-then-not-fits-sheet : goal.returns-then-not-fits-sheet
-returns-then-not-fits-sheet g c =
+pub returns-then-not-fits_sheet : goal.returns-then-not-fits_sheet
+returns-then-not-fits_sheet g c =
     let s = c.args.sheet.now in
     let low : c.args.store < (held s).limit = subst (λ x. c.args.store < (graph x).limit) c.tables.ensures c.if-store-tables.false in
-    let why = fetch_sizes low (sym c.if-not-fits-sheet.ensures) in
+    let why = fetch_sizes low (sym c.if-not-fits_sheet.ensures) in
     (why, fetch_not_accepted g.K.Ranking.atleast g.met.K.Ranking.lawful (held s) why, refl)
 
-pub returns-in-default : goal.returns-in-default
-returns-in-default g c =
+pub returns-in_default : goal.returns-in_default
+returns-in_default g c =
     let s = c.args.sheet.now in
     let low : c.args.store < (held s).limit = subst (λ x. c.args.store < (graph x).limit) c.tables.ensures c.if-store-tables.false in
-    let fit = sym c.if-not-fits-sheet.ensures in
-    let why = nothing low fit (sym c.next.ensures ∙ c.in-default.is) in
+    let fit = sym c.if-not-fits_sheet.ensures in
+    let why = nothing low fit (sym c.next.ensures ∙ c.in_default.is) in
     (why, fetch_not_accepted g.K.Ranking.atleast g.met.K.Ranking.lawful (held s) why, refl)
 
-pub returns-in-default-entry-for : goal.returns-in-default-entry-for
-returns-in-default-entry-for g c =
+pub returns-in_default-entry_for : goal.returns-in_default-entry_for
+returns-in_default-entry_for g c =
     let s = c.args.sheet.now in
     let low : c.args.store < (held s).limit = subst (λ x. c.args.store < (graph x).limit) c.tables.ensures c.if-store-tables.false in
-    let fit = sym c.if-not-fits-sheet.ensures in
+    let fit = sym c.if-not-fits_sheet.ensures in
     let next = sym c.next.ensures ∙ c.in-Some.is in
-    let why = stray_note low fit next c.in-default-entry-for.ensures in
+    let why = stray_note low fit next c.in_default-entry_for.ensures in
     (why, fetch_not_accepted g.K.Ranking.atleast g.met.K.Ranking.lawful (held s) why, refl)
 
 pub returns-then-strays : goal.returns-then-strays
@@ -47,12 +47,12 @@ returns-then-strays g c =
     let s = c.args.sheet.now in
     let w = world g.L.Line.waiting g.L.Line.capacity g.L.Line.chosen c.args.round.now c.args.records.now c.args.marks.now c.args.line.now in
     let low : c.args.store < (held s).limit = subst (λ x. c.args.store < (graph x).limit) c.tables.ensures c.if-store-tables.false in
-    let fit = sym c.if-not-fits-sheet.ensures in
+    let fit = sym c.if-not-fits_sheet.ensures in
     let next = sym c.next.ensures ∙ c.in-Some.is in
     let facts = fits_facts (held s) w fit in
-    let comes = c.in-Some-entry-for.ensures in
+    let comes = c.in-Some-entry_for.ensures in
     let below = comes_parcel g.K.Ranking.atleast (held s) (held_sound s) c.args.store c.in-Some.note comes.0 in
-    let strays = c.unwrap-or-strays.ensures ∙ ap (λ o. unwrap_or o true) c.record-strays.ensures ∙ strays_here (held s) c.args.records.now c.in-Some.note.addressee facts.records_long below in
+    let strays = c.unwrap_or-strays.ensures ∙ ap (λ o. unwrap_or o true) c.record_strays.ensures ∙ strays_here (held s) c.args.records.now c.in-Some.note.addressee facts.records_long below in
     let why = wrong_record low fit next comes.0 (sym strays ∙ c.if-strays.true) in
     (why, fetch_not_accepted g.K.Ranking.atleast g.met.K.Ranking.lawful (held s) why, refl)
 
@@ -60,10 +60,10 @@ pub receive-requires : goal.receive-requires
 receive-requires g c =
     let s = c.args.sheet.now in
     let w = world g.L.Line.waiting g.L.Line.capacity g.L.Line.chosen c.args.round.now c.args.records.now c.args.marks.now c.args.line.now in
-    let fit = sym c.if-not-fits-sheet.ensures in
+    let fit = sym c.if-not-fits_sheet.ensures in
     let next = sym c.next.ensures ∙ c.in-Some.is in
     let facts = fits_facts (held s) w fit in
-    let comes = c.in-Some-entry-for.ensures in
+    let comes = c.in-Some-entry_for.ensures in
     let here = handed_store (g.L.Line.waiting c.args.line.now) (g.L.Line.capacity c.args.line.now) (g.L.Line.chosen c.args.line.now) (g.L.Line.lawful c.args.line.now) c.args.store c.in-Some.note next in
     record {
       comes = subst (λ x. stray g.K.Ranking.atleast (held s) x c.in-Some.note ≡ false) (sym here) comes.0;
@@ -72,18 +72,18 @@ receive-requires g c =
       handed = subst (λ x. g.L.Line.chosen c.args.line.now x ≡ Some c.in-Some.note) (sym here) next;
     }
 
-pub returns-in-default-receive : goal.returns-in-default-receive
-returns-in-default-receive g c =
+pub returns-in_default-receive : goal.returns-in_default-receive
+returns-in_default-receive g c =
     let s = c.args.sheet.now in
     let w = world g.L.Line.waiting g.L.Line.capacity g.L.Line.chosen c.args.round.now c.args.records.now c.args.marks.now c.args.line.now in
     let low : c.args.store < (held s).limit = subst (λ x. c.args.store < (graph x).limit) c.tables.ensures c.if-store-tables.false in
-    let fit = sym c.if-not-fits-sheet.ensures in
+    let fit = sym c.if-not-fits_sheet.ensures in
     let next = sym c.next.ensures ∙ c.in-Some.is in
     let facts = fits_facts (held s) w fit in
-    let comes = c.in-Some-entry-for.ensures in
+    let comes = c.in-Some-entry_for.ensures in
     let below = comes_parcel g.K.Ranking.atleast (held s) (held_sound s) c.args.store c.in-Some.note comes.0 in
-    let strays = c.unwrap-or-strays.ensures ∙ ap (λ o. unwrap_or o true) c.record-strays.ensures ∙ strays_here (held s) c.args.records.now c.in-Some.note.addressee facts.records_long below in
-    let none = c.in-default-receive.ensures in
+    let strays = c.unwrap_or-strays.ensures ∙ ap (λ o. unwrap_or o true) c.record_strays.ensures ∙ strays_here (held s) c.args.records.now c.in-Some.note.addressee facts.records_long below in
+    let none = c.in_default-receive.ensures in
     let many = none.0 in
     let why = fetch_room low fit next comes.0 (sym strays ∙ c.if-strays.false) many.receives many.over in (
       why,
@@ -97,15 +97,15 @@ returns g c =
     let s = c.args.sheet.now in
     let w = world g.L.Line.waiting g.L.Line.capacity g.L.Line.chosen c.args.round.now c.args.records.now c.args.marks.now c.args.line.now in
     let low : c.args.store < (held s).limit = subst (λ x. c.args.store < (graph x).limit) c.tables.ensures c.if-store-tables.false in
-    let fit = sym c.if-not-fits-sheet.ensures in
+    let fit = sym c.if-not-fits_sheet.ensures in
     let next = sym c.next.ensures ∙ c.in-Some.is in
     let facts = fits_facts (held s) w fit in
-    let comes = c.in-Some-entry-for.ensures in
+    let comes = c.in-Some-entry_for.ensures in
     let below = comes_parcel g.K.Ranking.atleast (held s) (held_sound s) c.args.store c.in-Some.note comes.0 in
-    let strays = c.unwrap-or-strays.ensures ∙ ap (λ o. unwrap_or o true) c.record-strays.ensures ∙ strays_here (held s) c.args.records.now c.in-Some.note.addressee facts.records_long below in
+    let strays = c.unwrap_or-strays.ensures ∙ ap (λ o. unwrap_or o true) c.record_strays.ensures ∙ strays_here (held s) c.args.records.now c.in-Some.note.addressee facts.records_long below in
     let did = c.in-Some-receive.ensures in
     let took = did.0 in
-    let turn = c.count-turn.ensures in
+    let turn = c.count_turn.ensures in
     record {
       accepted = record {
         store = low;
@@ -114,7 +114,7 @@ returns g c =
         next = next;
         comes = comes.0;
         right = sym strays ∙ c.if-strays.false;
-        record' = c.in-Some-receive.now-is;
+        record' = c.in-Some-receive.now_is;
         marks' = c.receive.new.marks;
         out = took.out;
         receives = took.receives;

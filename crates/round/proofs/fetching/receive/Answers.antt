@@ -5,8 +5,8 @@ use Rattle.sheet.proofs.Held.{held_sound}
 use Rattle.round.proofs.Coming.{comes_row, comes_kind}
 use Rattle.round.proofs.fetching.receive.Goals as goal
 
-pub receive-bid-requires : goal.receive-bid-requires
-receive-bid-requires g c =
+pub receive_bid-requires : goal.receive_bid-requires
+receive_bid-requires g c =
     let s = c.args.sheet.now in
     let n = c.args.note in
     record {
@@ -17,8 +17,8 @@ receive-bid-requires g c =
       handed = c.requires.handed;
     }
 
-pub receive-drop-requires : goal.receive-drop-requires
-receive-drop-requires g c =
+pub receive_drop-requires : goal.receive_drop-requires
+receive_drop-requires g c =
     let s = c.args.sheet.now in
     let n = c.args.note in
     record {

@@ -11,35 +11,35 @@ pub returns-then-not-awaits : goal.returns-then-not-awaits
 returns-then-not-awaits g c =
     let s = c.args.sheet.now in
     let line = g.L.Line in (
-      took_loses g.K.Ranking.atleast (held s) (held_sound s) c.args.note c.args.was c.args.marks.now c.requires.long c.args.at c.requires.within c.requires.entry (line.waiting c.args.line.now) (line.waiting c.take-sure.new.line) c.take-sure.ensures.notes _ c.requires.kind (sym c.if-not-awaits.ensures),
-      c.take-sure.ensures.size,
+      took_loses g.K.Ranking.atleast (held s) (held_sound s) c.args.note c.args.was c.args.marks.now c.requires.long c.args.at c.requires.within c.requires.entry (line.waiting c.args.line.now) (line.waiting c.take_sure.new.line) c.take_sure.ensures.notes _ c.requires.kind (sym c.if-not-awaits.ensures),
+      c.take_sure.ensures.size,
     )
 
-pub overflow-add-free : goal.overflow-add-free
-overflow-add-free g c = omega (arith, c.free.ensures, (g.L.Line.lawful c.args.line.now).limit)
+pub overflow_add-free : goal.overflow_add-free
+overflow_add-free g c = omega (arith, c.free.ensures, (g.L.Line.lawful c.args.line.now).limit)
 
 pub returns-then-count-free : goal.returns-then-count-free
 returns-then-count-free g c =
     let s = c.args.sheet.now in (
-      many_drop g.K.Ranking.atleast (held s) (held_sound s) c.args.note c.args.was c.args.marks.now c.requires.long c.args.at c.requires.within c.requires.entry _ c.sending-count.result c.requires.kind (sym c.if-not-awaits.ensures) c.plan-choice-plan.result c.plan-choice-plan.ensures c.sending-count.ensures (omega (arith, c.free.ensures, c.if-count-free.true)),
+      many_drop g.K.Ranking.atleast (held s) (held_sound s) c.args.note c.args.was c.args.marks.now c.requires.long c.args.at c.requires.within c.requires.entry _ c.sending-count.result c.requires.kind (sym c.if-not-awaits.ensures) c.plan_choice-plan.result c.plan_choice-plan.ensures c.sending-count.ensures (omega (arith, c.free.ensures, c.if-count-free.true)),
       set-set c.args.marks.now c.args.at _ _ ∙ set-get_or c.args.marks.now c.args.at 0,
       refl,
     )
 
-pub carry-out-requires : goal.carry-out-requires
-carry-out-requires g c =
+pub carry_out-requires : goal.carry_out-requires
+carry_out-requires g c =
     let s = c.args.sheet.now in
     record {
       parcel = c.requires.within.parcel;
       long = drop_long g.K.Ranking.atleast (held s) (held_sound s) c.args.note c.args.was c.args.marks.now c.requires.long c.args.at c.requires.within c.requires.entry;
-      planned = c.plan-choice-plan.ensures;
-      room = omega (arith, c.sending-count.ensures, c.free.ensures, c.if-count-free.false, one_more c.take-sure-2.ensures.notes, c.take-sure-2.ensures.size, (g.L.Line.lawful c.args.line.now).within);
+      planned = c.plan_choice-plan.ensures;
+      room = omega (arith, c.sending-count.ensures, c.free.ensures, c.if-count-free.false, one_more c.take_sure-2.ensures.notes, c.take_sure-2.ensures.size, (g.L.Line.lawful c.args.line.now).within);
     }
 
 pub returns : goal.returns
 returns g c =
     let s = c.args.sheet.now in
     let line = g.L.Line in (
-      took_turns g.K.Ranking.atleast (held s) (held_sound s) c.args.note c.args.was c.args.marks.now c.requires.long c.args.at c.requires.within c.requires.entry (line.waiting c.args.line.now) (line.waiting c.take-sure-2.new.line) c.take-sure-2.ensures.notes _ c.requires.kind (sym c.if-not-awaits.ensures) c.carry-out.result c.carry-out.new.marks (line.waiting c.carry-out.new.line) (sends c.plan-choice-plan.result) c.sending-count.result c.sending-count.ensures (omega (arith, c.free.ensures, c.if-count-free.false)) c.carry-out.ensures.done,
-      c.carry-out.ensures.size ∙ c.take-sure-2.ensures.size,
+      took_turns g.K.Ranking.atleast (held s) (held_sound s) c.args.note c.args.was c.args.marks.now c.requires.long c.args.at c.requires.within c.requires.entry (line.waiting c.args.line.now) (line.waiting c.take_sure-2.new.line) c.take_sure-2.ensures.notes _ c.requires.kind (sym c.if-not-awaits.ensures) c.carry_out.result c.carry_out.new.marks (line.waiting c.carry_out.new.line) (sends c.plan_choice-plan.result) c.sending-count.result c.sending-count.ensures (omega (arith, c.free.ensures, c.if-count-free.false)) c.carry_out.ensures.done,
+      c.carry_out.ensures.size ∙ c.take_sure-2.ensures.size,
     )

@@ -15,22 +15,22 @@ returns-then-u-tables g c =
     let past : parcels (held c.args.sheet.now) ≤ c.args.parcel = subst (λ x. parcels (graph x) ≤ c.args.parcel) c.tables.ensures c.if-u-tables.true in
     (no_parcel past, start_not_accepted g.K.Ranking.atleast g.met.K.Ranking.lawful (held c.args.sheet.now) (no_parcel past), refl)
 
-pub returns-then-not-fits-sheet : goal.returns-then-not-fits-sheet
-returns-then-not-fits-sheet g c =
+pub returns-then-not-fits_sheet : goal.returns-then-not-fits_sheet
+returns-then-not-fits_sheet g c =
     let below : c.args.parcel < parcels (held c.args.sheet.now) = subst (λ x. c.args.parcel < parcels (graph x)) c.tables.ensures c.if-u-tables.false in
-    let why = start_sizes below (sym c.if-not-fits-sheet.ensures) in
+    let why = start_sizes below (sym c.if-not-fits_sheet.ensures) in
     (why, start_not_accepted g.K.Ranking.atleast g.met.K.Ranking.lawful (held c.args.sheet.now) why, refl)
 
 pub returns-then-state-gt-LONE : goal.returns-then-state-gt-LONE
 returns-then-state-gt-LONE g c =
     let below : c.args.parcel < parcels (held c.args.sheet.now) = subst (λ x. c.args.parcel < parcels (graph x)) c.tables.ensures c.if-u-tables.false in
-    let why = start_strays below (sym c.if-not-fits-sheet.ensures) c.if-state-gt-LONE.true in
+    let why = start_strays below (sym c.if-not-fits_sheet.ensures) c.if-state-gt-LONE.true in
     (why, start_not_accepted g.K.Ranking.atleast g.met.K.Ranking.lawful (held c.args.sheet.now) why, refl)
 
 pub returns-then-state-ne-IDLE : goal.returns-then-state-ne-IDLE
 returns-then-state-ne-IDLE g c =
     let below : c.args.parcel < parcels (held c.args.sheet.now) = subst (λ x. c.args.parcel < parcels (graph x)) c.tables.ensures c.if-u-tables.false in
-    let why = begun below (sym c.if-not-fits-sheet.ensures) (omega (arith, c.if-state-ne-IDLE.true)) c.if-state-gt-LONE.false in
+    let why = begun below (sym c.if-not-fits_sheet.ensures) (omega (arith, c.if-state-ne-IDLE.true)) c.if-state-gt-LONE.false in
     (why, start_not_accepted g.K.Ranking.atleast g.met.K.Ranking.lawful (held c.args.sheet.now) why, refl)
 
 pub returns-then-count-free : goal.returns-then-count-free
@@ -38,21 +38,21 @@ returns-then-count-free g c =
     let s = c.args.sheet.now in
     let below : c.args.parcel < parcels (held s) = subst (λ x. c.args.parcel < parcels (graph x)) c.tables.ensures c.if-u-tables.false in
     let w = world g.L.Line.waiting g.L.Line.capacity g.L.Line.chosen c.args.round.now c.args.records.now c.args.marks.now c.args.line.now in
-    let facts = fits_facts (held s) w (sym c.if-not-fits-sheet.ensures) in
-    let m = meant g.K.Ranking.atleast (held s) (held_sound s) c.args.parcel c.args.marks.now below facts.marks_long c.plan-choice-plan.result c.plan-choice-plan.ensures in
-    let why = start_room below (sym c.if-not-fits-sheet.ensures) c.if-state-ne-IDLE.false m.chooses (omega (arith, m.many, c.sending-count.ensures, c.free.ensures, c.if-count-free.true)) in
+    let facts = fits_facts (held s) w (sym c.if-not-fits_sheet.ensures) in
+    let m = meant g.K.Ranking.atleast (held s) (held_sound s) c.args.parcel c.args.marks.now below facts.marks_long c.plan_choice-plan.result c.plan_choice-plan.ensures in
+    let why = start_room below (sym c.if-not-fits_sheet.ensures) c.if-state-ne-IDLE.false m.chooses (omega (arith, m.many, c.sending-count.ensures, c.free.ensures, c.if-count-free.true)) in
     (why, start_not_accepted g.K.Ranking.atleast g.met.K.Ranking.lawful (held s) why, refl)
 
-pub carry-out-requires : goal.carry-out-requires
-carry-out-requires g c =
+pub carry_out-requires : goal.carry_out-requires
+carry_out-requires g c =
     let s = c.args.sheet.now in
     let below : c.args.parcel < parcels (held s) = subst (λ x. c.args.parcel < parcels (graph x)) c.tables.ensures c.if-u-tables.false in
     let w = world g.L.Line.waiting g.L.Line.capacity g.L.Line.chosen c.args.round.now c.args.records.now c.args.marks.now c.args.line.now in
-    let facts = fits_facts (held s) w (sym c.if-not-fits-sheet.ensures) in
+    let facts = fits_facts (held s) w (sym c.if-not-fits_sheet.ensures) in
     record {
       parcel = below;
       long = facts.marks_long;
-      planned = c.plan-choice-plan.ensures;
+      planned = c.plan_choice-plan.ensures;
       room = omega (arith, c.sending-count.ensures, c.free.ensures, c.if-count-free.false, (g.L.Line.lawful c.args.line.now).within);
     }
 
@@ -60,16 +60,16 @@ pub returns : goal.returns
 returns g c =
     let s = c.args.sheet.now in
     let below : c.args.parcel < parcels (held s) = subst (λ x. c.args.parcel < parcels (graph x)) c.tables.ensures c.if-u-tables.false in
-    let did = c.carry-out.ensures.done in
-    let turn = c.count-turn.ensures in
+    let did = c.carry_out.ensures.done in
+    let turn = c.count_turn.ensures in
     let many : length did.out ≡ c.sending-count.result = did.many ∙ sym c.sending-count.ensures in
     record {
       accepted = record {
         parcel = below;
-        fitting = sym c.if-not-fits-sheet.ensures;
+        fitting = sym c.if-not-fits_sheet.ensures;
         idle = c.if-state-ne-IDLE.false;
-        record' = c.carry-out.result;
-        marks' = c.carry-out.new.marks;
+        record' = c.carry_out.result;
+        marks' = c.carry_out.new.marks;
         out = did.out;
         chooses = did.chooses;
         room = omega (arith, many, c.free.ensures, c.if-count-free.false);
@@ -80,7 +80,7 @@ returns g c =
         waiting = did.put;
         turns = turn.turns;
         sent = turn.sent' ∙ ap (λ n. min (c.args.round.now.sent + n) 4294967295) (sym many);
-        capacity = c.carry-out.ensures.size;
+        capacity = c.carry_out.ensures.size;
         parcel_count = turn.parcels;
         entry_count = turn.entries;
         store_count = turn.stores;

@@ -10,7 +10,7 @@ loop-p-preserved g c =
     let t = graph c.args.t in
     let fault = entry_fault g.K.Ranking.atleast t in
     let here : InRow t c.rows.u c.loop-p.p = record { parcel = c.rows-test.true; from = c.loop-p.auto.p; to = c.loop-p-test.true } in
-    (c.loop-p.invariant.0, before_more t c.requires.rows.each (λ v q. fault v q ≡ 0) c.rows.u c.loop-p.p here c.loop-p.invariant.1 (sym c.entry-fault-number.ensures ∙ c.if-number-ne0.false))
+    (c.loop-p.invariant.0, before_more t c.requires.rows.each (λ v q. fault v q ≡ 0) c.rows.u c.loop-p.p here c.loop-p.invariant.1 (sym c.entry_fault-number.ensures ∙ c.if-number-ne0.false))
 
 pub returns-after-rows : goal.returns-after-rows
 returns-after-rows g c =

@@ -4,7 +4,7 @@ use Rattle.sheet.specs.Check.{Alike}
 use Rattle.sheet.specs.View.{graph}
 use Rattle.stages.proofs.again.check_and_settle.Goals as goal
 
-pub settle-again-requires : goal.settle-again-requires
-settle-again-requires g c =
+pub settle_again-requires : goal.settle_again-requires
+settle_again-requires g c =
     let passed = c.in-Ok.ensures in
     subst (λ x. Alike cents_atleast (graph x)) (sym passed.1) passed.0.alike

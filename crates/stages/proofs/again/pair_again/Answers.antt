@@ -7,7 +7,7 @@ use Rattle.stages.proofs.again.pair_again.Goals as goal
 pub loop-made-preserved : goal.loop-made-preserved
 loop-made-preserved c =
     let t = held c.args.sheet.now in
-    inr (omega arith, done_from cents_atleast t c.loop-made.auto.records c.loop-made.auto.worklist c.in-default.ensures)
+    inr (omega arith, done_from cents_atleast t c.loop-made.auto.records c.loop-made.auto.worklist c.in_default.ensures)
 
 pub returns-in-Err : goal.returns-in-Err
 returns-in-Err c =

@@ -6,12 +6,12 @@ use Rattle.text.proofs.Fields.next_field.Goals as goal
 
 pub returns-in-Some : goal.returns-in-Some
 returns-in-Some c =
-    let bytes = c.in-ok-part.part.bytes.now in
+    let bytes = c.in_ok-part.part.bytes.now in
     let end = c.in-Some.end in
     let told = c.in-Some.ensures in
     let front : end - 0 ≡ end = omega arith in
     let long : length (take (end - 0) bytes) ≡ end = length-take-le (end - 0) bytes (omega (arith, told.0)) ∙ front in
-    rw c.in-ok-part.was (inr (
+    rw c.in_ok-part.was (inr (
       _,
       _,
       record {
@@ -19,7 +19,7 @@ returns-in-Some c =
         first = subst (λ n. Free 44 (take n bytes)) (sym front) told.2;
         place = refl;
         number = refl;
-        onward = c.saturating-add.ensures ∙ ap (λ n. min (c.in-ok-part.part.place + (n + 1)) (2 ^ 64 - 1)) (sym long);
+        onward = c.saturating_add.ensures ∙ ap (λ n. min (c.in_ok-part.part.place + (n + 1)) (2 ^ 64 - 1)) (sym long);
         same_line = refl;
       },
       refl,

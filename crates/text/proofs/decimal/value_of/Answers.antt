@@ -5,36 +5,36 @@ use Rattle.text.specs.Numbers.{Digit, value}
 use Rattle.text.proofs.Worth.{value_grows, value_more}
 use Rattle.text.proofs.decimal.value_of.Goals as goal
 
-pub overflow-sub-b : goal.overflow-sub-b
-overflow-sub-b c = (All-get_or Digit c.args.digits.now c.loop-b.b-index 0 (omega arith) c.requires).0
+pub overflow_sub-b : goal.overflow_sub-b
+overflow_sub-b c = (All-get_or Digit c.args.digits.now c.loop-b.b-index 0 (omega arith) c.requires).0
 
-pub returns-in-err-checked-mul : goal.returns-in-err-checked-mul
-returns-in-err-checked-mul c =
+pub returns-in_err-checked_mul : goal.returns-in_err-checked_mul
+returns-in_err-checked_mul c =
     let bytes = c.args.digits.now in
     let i = c.loop-b.b-index in
     let grown = value_grows bytes (i + 1) in
     let step = value_more bytes i (omega arith) in
     let was = c.loop-b.invariant in
-    let big = c.in-err-checked-mul.ensures in
-    rw c.from-residual.ensures (omega arith)
+    let big = c.in_err-checked_mul.ensures in
+    rw c.from_residual.ensures (omega arith)
 
-pub returns-in-err-value : goal.returns-in-err-value
-returns-in-err-value c =
+pub returns-in_err-value : goal.returns-in_err-value
+returns-in_err-value c =
     let bytes = c.args.digits.now in
     let i = c.loop-b.b-index in
     let grown = value_grows bytes (i + 1) in
     let step = value_more bytes i (omega arith) in
     let was = c.loop-b.invariant in
-    let big = c.in-err-value.ensures in
-    let tens = c.in-ok-checked-mul.ensures in
-    rw c.from-residual-in-err-value.ensures (omega arith)
+    let big = c.in_err-value.ensures in
+    let tens = c.in_ok-checked_mul.ensures in
+    rw c.from_residual-in_err-value.ensures (omega arith)
 
 pub loop-b-preserved : goal.loop-b-preserved
 loop-b-preserved c =
     let step = value_more c.args.digits.now c.loop-b.b-index (omega arith) in
     let was = c.loop-b.invariant in
-    let tens = c.in-ok-checked-mul.ensures in
-    let sum = c.in-ok-value.ensures in
+    let tens = c.in_ok-checked_mul.ensures in
+    let sum = c.in_ok-value.ensures in
     omega arith
 
 pub returns : goal.returns

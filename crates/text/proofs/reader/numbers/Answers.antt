@@ -10,27 +10,27 @@ use Rattle.text.proofs.reader.numbers.Goals as goal
 pub loop-i-init : goal.loop-i-init
 loop-i-init g c = (refl, subst (Sofar [] c.args.line.bytes.now) (sym c.new-fields.ensures) (start refl))
 
-pub returns-in-err-field : goal.returns-in-err-field
-returns-in-err-field g c =
+pub returns-in_err-field : goal.returns-in_err-field
+returns-in_err-field g c =
     let vs = c.loop-i.values in
     let long = length-replicate {A = ℕ} g.row.N 0 in
     let read : length (take c.loop-i.i vs) ≡ c.loop-i.i = length-take-le c.loop-i.i vs (omega (arith, c.loop-i.invariant.0)) in
-    rw c.from-residual.ensures (λ ws e w. too_few _ _ _ _ c.loop-i.invariant.1 c.in-err-field.ensures ws (omega arith) w)
+    rw c.from_residual.ensures (λ ws e w. too_few _ _ _ _ c.loop-i.invariant.1 c.in_err-field.ensures ws (omega arith) w)
 
-pub returns-in-err-values : goal.returns-in-err-values
-returns-in-err-values g c =
-    let no_value : (v : ℕ) → Numeral c.in-ok-field.field.bytes.now v → ⊥ = search rules in
-    rw c.from-residual-in-err-values.ensures (λ ws e w. no_number _ _ _ _ c.loop-i.invariant.1 _ c.in-ok-field.ensures no_value ws w)
+pub returns-in_err-values : goal.returns-in_err-values
+returns-in_err-values g c =
+    let no_value : (v : ℕ) → Numeral c.in_ok-field.field.bytes.now v → ⊥ = search rules in
+    rw c.from_residual-in_err-values.ensures (λ ws e w. no_number _ _ _ _ c.loop-i.invariant.1 _ c.in_ok-field.ensures no_value ws w)
 
 pub loop-i-preserved : goal.loop-i-preserved
 loop-i-preserved g c =
     let vs = c.loop-i.values in
     let i = c.loop-i.i in
-    let value : Numeral c.in-ok-field.field.bytes.now c.in-ok-values.field-0 = search rules in
+    let value : Numeral c.in_ok-field.field.bytes.now c.in_ok-values.field-0 = search rules in
     let long = length-replicate {A = ℕ} g.row.N 0 in (
       length-set vs i _ ∙ c.loop-i.invariant.0,
-      subst (λ l. Sofar l c.args.line.bytes.now c.next-field.new.self.rest) (sym (take_more_set vs i _ (omega (arith, c.loop-i.invariant.0))))
-          (one_more _ _ _ _ _ _ c.in-ok-field.ensures c.loop-i.invariant.1 value),
+      subst (λ l. Sofar l c.args.line.bytes.now c.next_field.new.self.rest) (sym (take_more_set vs i _ (omega (arith, c.loop-i.invariant.0))))
+          (one_more _ _ _ _ _ _ c.in_ok-field.ensures c.loop-i.invariant.1 value),
     )
 
 -- at the end all places are filled

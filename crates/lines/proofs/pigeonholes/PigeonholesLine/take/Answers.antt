@@ -6,10 +6,10 @@ pub returns : goal.returns
 returns c =
     let pool = c.args.self.now.pool in
     let remove = c.remove in
-    let note = c.in-ok-note.note in
+    let note = c.in_ok-note.note in
     let taken = taken_is note _ pool remove.new.pool (search rules) remove.ensures.notes in
     record {
-      answer = c.in-ok-note.ensures;
+      answer = c.in_ok-note.ensures;
       notes = taken_waits note _ pool remove.new.pool taken;
       size = remove.ensures.size;
       order = search rules;
