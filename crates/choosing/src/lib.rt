@@ -22,7 +22,7 @@ pub trait Candidates {
 // Whether the key at `p` is at least as high as the key at `top`, if there is one.
 fn no_lower<K: Ranking>(keys: &[K], p: usize, top: Option<usize>) -> bool
     requires { (p < length keys.now) × (IfSome top (λ q. q < length keys.now)) }
-    ensures { MatchOption top (result ≡ true) (λ q. result ≡ lifted atleast (slice_get keys.now p) (slice_get keys.now q)) }
+    ensures { MatchOption top (result ≡ true) (λ q. result ≡ lifted K.Ranking.atleast (slice_get keys.now p) (slice_get keys.now q)) }
 {
     match top {
         None => true,

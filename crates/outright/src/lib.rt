@@ -42,7 +42,7 @@ fn is_paired(records: &[Record], u: usize) -> bool
 
 // The best free entry of parcel `v`, if its row has a free one.
 fn best_free<K: Ranking>(sheet: &Sheet<K>, records: &[Record], v: usize) -> Option<usize>
-    ensures { Choice atleast (held sheet.now) (free (held sheet.now) records.now) v result }
+    ensures { Choice K.Ranking.atleast (held sheet.now) (free (held sheet.now) records.now) v result }
 {
     let others = sheet.tables().others;
     top_entry(sheet, v, &Free { others, records })
@@ -90,10 +90,10 @@ fn settle<K: Ranking>(
     listed: usize,
     v: u32,
 ) -> usize
-    requires ready { Ready atleast (held sheet.now) records.old worklist.old listed }
+    requires ready { Ready K.Ranking.atleast (held sheet.now) records.old worklist.old listed }
     requires parcel { v < parcels (held sheet.now) }
     requires unpaired { state records.old v ≢ 2 }
-    ensures { Settles atleast (held sheet.now) v records.old worklist.old listed records.new worklist.new result }
+    ensures { Settles K.Ranking.atleast (held sheet.now) v records.old worklist.old listed records.new worklist.new result }
 {
     let tables = sheet.tables();
     let Some(p) = best_free(sheet, records, v as usize) else {
@@ -121,7 +121,7 @@ fn settle_all<K: Ranking>(sheet: &Sheet<K>, records: &mut [Record], worklist: &m
     requires idle { (u : ℕ) → state records.old u ≡ 0 }
     requires long { length records.old ≡ parcels (held sheet.now) }
     requires room { parcels (held sheet.now) ≤ length worklist.old }
-    ensures ready { Ready atleast (held sheet.now) records.new worklist.new result }
+    ensures ready { Ready K.Ranking.atleast (held sheet.now) records.new worklist.new result }
     ensures settled { AllSettled (held sheet.now) records.new }
 {
     let mut listed = 0;
@@ -140,10 +140,10 @@ fn renew_at<K: Ranking>(
     mut listed: usize,
     u: u32,
 ) -> usize
-    requires ready { Ready atleast (held sheet.now) records.old worklist.old listed }
+    requires ready { Ready K.Ranking.atleast (held sheet.now) records.old worklist.old listed }
     requires parcel { u < parcels (held sheet.now) }
     requires paired { state records.old u ≡ 2 }
-    ensures ready { Ready atleast (held sheet.now) records.new worklist.new result }
+    ensures ready { Ready K.Ranking.atleast (held sheet.now) records.new worklist.new result }
     ensures onward { Onward (held sheet.now) records.old worklist.old listed records.new worklist.new result }
     ensures none_waits { NoneWaitsAt (held sheet.now) records.new u }
 {
@@ -164,9 +164,9 @@ fn renew_all<K: Ranking>(
     worklist: &mut [u32],
     mut listed: usize,
 )
-    requires ready { Ready atleast (held sheet.now) records.old worklist.old listed }
+    requires ready { Ready K.Ranking.atleast (held sheet.now) records.old worklist.old listed }
     requires settled { AllSettled (held sheet.now) records.old }
-    ensures kept { Kept atleast (held sheet.now) records.new }
+    ensures kept { Kept K.Ranking.atleast (held sheet.now) records.new }
     ensures settled { AllSettled (held sheet.now) records.new }
     ensures renewed { AllRenewed (held sheet.now) records.new }
 {
@@ -200,7 +200,7 @@ pub fn pair_outright<K: Ranking>(
     records: &mut [Record],
     worklist: &mut [u32],
 ) -> Result<(), Fault>
-    ensures { elim result [ Ok _ ↦ Done atleast (held sheet.now) records.old worklist.old records.new | Err f ↦ Refused (held sheet.now) records.old worklist.old f.0 f.1 × (records.new ≡ records.old) × (worklist.new ≡ worklist.old) ] }
+    ensures { elim result [ Ok _ ↦ Done K.Ranking.atleast (held sheet.now) records.old worklist.old records.new | Err f ↦ Refused (held sheet.now) records.old worklist.old f.0 f.1 × (records.new ≡ records.old) × (worklist.new ≡ worklist.old) ] }
 {
     let parcels = sheet.tables().stores.len();
     if worklist.len() < parcels {

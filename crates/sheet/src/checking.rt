@@ -85,7 +85,7 @@ fn find(others: &[u32], from: usize, to: usize, v: usize) -> usize
 // Whether the keys at `p` and `q` rank alike.
 fn keys_alike<K: Ranking>(keys: &[K], p: usize, q: usize) -> bool
     requires { (p < length keys.now) × (q < length keys.now) }
-    ensures { result ≡ alike (lifted atleast) (slice_get keys.now p) (slice_get keys.now q) }
+    ensures { result ≡ alike (lifted K.Ranking.atleast) (slice_get keys.now p) (slice_get keys.now q) }
 {
     let a = keys[p];
     let b = keys[q];
@@ -97,7 +97,7 @@ fn entry_fault<K: Ranking>(t: Tables<K>, u: usize, p: usize) -> u32
     requires fits { fitted (graph t) ≡ true }
     requires rows { ParcelsRight (graph t) (parcels (graph t)) }
     requires within { InRow (graph t) u p }
-    ensures { result ≡ entry_fault atleast (graph t.entry) u p }
+    ensures { result ≡ entry_fault K.Ranking.atleast (graph t.entry) u p }
 {
     if !entry_rises(t, u, p) {
         return ENTRY;
@@ -138,7 +138,7 @@ fn wrong_entry<K: Ranking>(t: Tables<K>) -> Option<Fault>
     requires size { sized (graph t) ≡ true }
     requires fits { fitted (graph t) ≡ true }
     requires rows { ParcelsRight (graph t) (parcels (graph t)) }
-    ensures { WrongEntry atleast (graph t.entry) result }
+    ensures { WrongEntry K.Ranking.atleast (graph t.entry) result }
 {
     let mut found = None;
     'rows: for u in 0..t.stores.len() {
@@ -159,7 +159,7 @@ fn wrong_entry<K: Ranking>(t: Tables<K>) -> Option<Fault>
 /// table's length (3, at 0), the first parcel whose row or store is wrong (4), or else the first wrong entry in row
 /// order with its lowest fault (5 to 8).
 pub fn check<'a, K: Ranking>(sheet: &mut Sheet<'a, K>, tables: Tables<'a, K>) -> Result<(), Fault>
-    ensures { elim result [ Ok _ ↦ Passed atleast (graph tables.entry) × (sheet.new.tables ≡ tables.entry) | Err f ↦ Refused atleast (graph tables.entry) f.0 f.1 × (Passed atleast (graph tables.entry) → ⊥) × (sheet.new ≡ sheet.old) ] }
+    ensures { elim result [ Ok _ ↦ Passed K.Ranking.atleast (graph tables.entry) × (sheet.new.tables ≡ tables.entry) | Err f ↦ Refused K.Ranking.atleast (graph tables.entry) f.0 f.1 × (Passed K.Ranking.atleast (graph tables.entry) → ⊥) × (sheet.new ≡ sheet.old) ] }
 {
     if !sizes_right(tables) {
         return Err((SIZE, 0));
