@@ -50,8 +50,8 @@ fn push_back(
     place: u32,
     note: Note,
 )
-    requires store_in_bounds { (note.store < length heads.old) × ((note.store < length tails.old) × (place < length slots.old)) }
-    requires store_in_bounds_2 { slice_index heads.old note.store < capacity → slice_index tails.old note.store < length slots.old }
+    requires within { (note.store < length heads.old) × ((note.store < length tails.old) × (place < length slots.old)) }
+    requires last_within { slice_index heads.old note.store < capacity → slice_index tails.old note.store < length slots.old }
     ensures slots { slots.new ≡ (if nat_lt (slice_index heads.old note.store) capacity then linked_to (slice_set slots.old place (slot note 4294967295)) (slice_index tails.old note.store) place else slice_set slots.old place (slot note 4294967295)) }
     ensures heads { heads.new ≡ (if nat_lt (slice_index heads.old note.store) capacity then heads.old else slice_set heads.old note.store place) }
     ensures tails { tails.new ≡ slice_set tails.old note.store place }

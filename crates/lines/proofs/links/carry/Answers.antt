@@ -6,11 +6,12 @@ use Rattle.lines.proofs.links.carry.Goals as goal
 pub push_back-requires : goal.push_back-requires
 push_back-requires c =
     let a = c.args in
-    let pop = c.pop-place in (
-      (omega arith, (omega arith, omega arith)),
-      tail_within a.slots.now a.heads.now a.tails.now a.capacity a.from a.note c.requires
-          pop.result pop.new.heads pop.ensures.place pop.ensures.heads,
-    )
+    let pop = c.pop-place in
+    record {
+      within = (omega arith, (omega arith, omega arith));
+      last_within = tail_within a.slots.now a.heads.now a.tails.now a.capacity a.from a.note c.requires
+          pop.result pop.new.heads pop.ensures.place pop.ensures.heads;
+    }
 
 pub returns-in-Front : goal.returns-in-Front
 returns-in-Front c =

@@ -28,7 +28,15 @@ pub invariant_of-sheet : goal.invariant_of-sheet
 invariant_of-sheet g c =
     let s =
     (passes g.K.Ranking.atleast (graph c.args.tables) (sym c.if-not-sizes_right.ensures) (sym c.if-not-lengths_right.ensures) c.in_default.ensures c.in_default-wrong_entry.ensures).sound in
-    (s.sized_right, (s.fitted_right, (s.bare, (s.parcel, (s.rising, (s.mirror, (s.edition, tt)))))))
+    record {
+      sizes = s.sized_right;
+      lengths = s.fitted_right;
+      bare = s.bare;
+      parcel = s.parcel;
+      rising = s.rising;
+      mirror = s.mirror;
+      edition = s.edition;
+    }
 
 pub returns : goal.returns
 returns g c =
