@@ -13,7 +13,7 @@ loop-u-preserved c =
     let t = held c.args.sheet.now in
     let rs = c.args.records.now in
     let more = sum_more t rs (chosen_cents t rs) c.loop-u.u in
-    (omega (arith, more, c.loop-u.invariant.0, c.from-sum.ensures, c.cents_of.ensures), omega (arith, c.loop-u.invariant.1, c.from-sum.ensures, c.cents_of.type-inv))
+    (omega (arith, more, c.loop-u.invariant.0, c.from-sum.ensures, c.cents_of.ensures), omega (arith, c.loop-u.invariant.1, c.from-sum.ensures))
 
 pub returns : goal.returns
 returns c =

@@ -13,7 +13,7 @@ use Rattle.round.proofs.choose.count_open_others.Goals.{then-other_open, else-ot
 
 pub loop-q-init : goal.loop-q-init
 loop-q-init g c =
-    let start = c.row_start.result.0 in
+    let start = c.row-start.result.0 in
     let test : ℕ → Bool = λ x. open' c.args.marks.now x && not (eqb x c.args.keep) in
     let e : start - start ≡ 0 = omega arith in
     sym (ap (λ n. length (filter test (places_from n start))) e)
@@ -21,17 +21,17 @@ loop-q-init g c =
 pub overflow_add-count : goal.overflow_add-count
 overflow_add-count g c =
     let s = c.args.sheet.now in
-    let start = c.row_start.result.0 in
+    let start = c.row-start.result.0 in
     let places = places_from (c.loop-q.q - start) start in
     let test : ℕ → Bool = λ x. open' c.args.marks.now x && not (eqb x c.args.keep) in
     let few : c.loop-q.count ≤ c.loop-q.q - start = omega (arith, c.loop-q.invariant, length-filter test places, count_by-le-length test places, length_places_from (c.loop-q.q - start) start) in
     let size = sized_facts (held s) (held_sound s).sized_right in
     let row = parcel_facts (held s) c.args.u ((held_sound s).parcel c.args.u c.requires.parcel) in
-    omega (arith, few, size.entries_few, row.within, c.row_start.ensures.1, c.loop-q-test.true)
+    omega (arith, few, size.entries_few, row.within, c.row-start.ensures.1, c.loop-q-test.true)
 
 pub loop-q-preserved : goal.loop-q-preserved
 loop-q-preserved g c =
-    let start = c.row_start.result.0 in
+    let start = c.row-start.result.0 in
     let q = c.loop-q.q in
     let test : ℕ → Bool = λ x. open' c.args.marks.now x && not (eqb x c.args.keep) in
     let low : start ≤ q = c.loop-q.auto.q in
@@ -43,8 +43,8 @@ loop-q-preserved g c =
 pub returns : goal.returns
 returns g c =
     let s = c.args.sheet.now in
-    let start = c.row_start.result.0 in
+    let start = c.row-start.result.0 in
     let test : ℕ → Bool = λ x. open' c.args.marks.now x && not (eqb x c.args.keep) in
     let row = parcel_facts (held s) c.args.u ((held_sound s).parcel c.args.u c.requires.parcel) in
-    let end : c.loop-q.q ≡ row_end (held s) c.args.u = omega (arith, c.row_start.ensures.0, c.row_start.ensures.1, row.forward, c.loop-q.auto.q, c.loop-q.auto.q-end, c.loop-q-test.false) in
-    c.loop-q.invariant ∙ ap (λ n. length (filter test (places_from (n - start) start))) end ∙ ap (λ n. length (filter test (places_from (row_end (held s) c.args.u - n) n))) c.row_start.ensures.0
+    let end : c.loop-q.q ≡ row_end (held s) c.args.u = omega (arith, c.row-start.ensures.0, c.row-start.ensures.1, row.forward, c.loop-q.auto.q, c.loop-q.auto.q-end, c.loop-q-test.false) in
+    c.loop-q.invariant ∙ ap (λ n. length (filter test (places_from (n - start) start))) end ∙ ap (λ n. length (filter test (places_from (row_end (held s) c.args.u - n) n))) c.row-start.ensures.0

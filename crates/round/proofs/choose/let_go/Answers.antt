@@ -12,15 +12,15 @@ loop-q-init g c =
     let t = held c.args.sheet.now in
     let m = c.args.marks.now in
     let w = g.L.Line.waiting c.args.line.now in
-    (subst (λ q. Going t c.args.u c.args.keep m w q m w) (sym c.row_start.ensures.0) (going_start t c.args.u c.args.keep m w c.requires.parcel), refl)
+    (subst (λ q. Going t c.args.u c.args.keep m w q m w) (sym c.row-start.ensures.0) (going_start t c.args.u c.args.keep m w c.requires.parcel), refl)
 
 pub drop_other-requires : goal.drop_other-requires
 drop_other-requires g c =
     let s = c.args.sheet.now in
     let row : InRow (held s) c.args.u c.loop-q.q = record {
       parcel = c.requires.parcel;
-      from = omega (arith, c.row_start.ensures.0, c.loop-q.auto.q);
-      to = omega (arith, c.row_start.ensures.1, c.loop-q-test.true);
+      from = omega (arith, c.row-start.ensures.0, c.loop-q.auto.q);
+      to = omega (arith, c.row-start.ensures.1, c.loop-q-test.true);
     } in
     let inv = c.loop-q.invariant in
     record {
@@ -35,8 +35,8 @@ loop-q-preserved g c =
     let s = c.args.sheet.now in
     let row : InRow (held s) c.args.u c.loop-q.q = record {
       parcel = c.requires.parcel;
-      from = omega (arith, c.row_start.ensures.0, c.loop-q.auto.q);
-      to = omega (arith, c.row_start.ensures.1, c.loop-q-test.true);
+      from = omega (arith, c.row-start.ensures.0, c.loop-q.auto.q);
+      to = omega (arith, c.row-start.ensures.1, c.loop-q-test.true);
     } in
     let inv = c.loop-q.invariant in
     let below : c.loop-q.q < length c.loop-q.marks = omega (arith, inv.0.long, c.requires.long, place_below (held s) (held_sound s) c.args.u c.loop-q.q row) in (
@@ -49,7 +49,7 @@ returns g c =
     let s = c.args.sheet.now in
     let inv = c.loop-q.invariant in
     let row = parcel_facts (held s) c.args.u ((held_sound s).parcel c.args.u c.requires.parcel) in
-    let end : c.loop-q.q ≡ row_end (held s) c.args.u = omega (arith, c.row_start.ensures.0, c.row_start.ensures.1, row.forward, c.loop-q.auto.q, c.loop-q.auto.q-end, c.loop-q-test.false) in
+    let end : c.loop-q.q ≡ row_end (held s) c.args.u = omega (arith, c.row-start.ensures.0, c.row-start.ensures.1, row.forward, c.loop-q.auto.q, c.loop-q.auto.q-end, c.loop-q-test.false) in
     record {
       done = going_end (held s) c.args.u c.args.keep c.args.marks.now (g.L.Line.waiting c.args.line.now) c.loop-q.q c.loop-q.marks (g.L.Line.waiting c.loop-q.line) c.requires.parcel end inv.0;
       size = inv.1;
