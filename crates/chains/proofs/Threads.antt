@@ -5,7 +5,7 @@ use Rattle.std.proofs.lemmas.List.{get_or-set_same, get_or-set_other, set-get_or
 use Rattle.std.proofs.lemmas.Bool.{lt-ltb, le-ltb, cases_eq, eqb-true, eq-eqb, and_parts, and_from, cond-true, cond-false}
 use Rattle.line.specs.declared.Note.{Note}
 use Rattle.chains.specs.declared.Slot.{Slot}
-use Rattle.chains.specs.Walk.{blank, slot, slot_at, chain, holds, last_or, linked_to}
+use Rattle.chains.specs.Walk.{blank, slot, slot_at, holds, last_or, linked_to}
 use Rattle.chains.proofs.Linked.{Linked, FreeOf, note_at, linked_set, once, places_below, elsewhere, holds_set, notes_set, last_rest, last_push, all_last, pass_last, holds_append, holds_linked_to, notes_linked_to, extend}
 use Rattle.chains.proofs.Updated.{upd, upd_same, upd_other}
 

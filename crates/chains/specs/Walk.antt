@@ -1,5 +1,5 @@
 -- Chains of places, linked through a table of slots. Assumes nothing.
-use Rattle.std.specs.Prelude.{ℕ, zero, suc, ◌+◌, Bool, cond, List, [], ◌∷◌, set, ◌==◌, nat_lt, slice_index, slice_index_or, slice_set}
+use Rattle.std.specs.Prelude.{ℕ, zero, suc, ◌+◌, Bool, cond, List, [], ◌∷◌, ◌==◌, nat_lt, slice_index, slice_index_or, slice_set}
 use Rattle.line.specs.declared.Note.{Note}
 use Rattle.chains.specs.declared.Slot.{Slot}
 

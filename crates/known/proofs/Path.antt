@@ -1,14 +1,13 @@
 -- A round on the path: start 1, start 2, fetch 1. Assumes nothing.
-use Rattle.std.proofs.Common.{◌≡◌, ℕ, zero, suc, ◌+◌, ◌<◌, ◌≤◌, Bool, true, false, cond, ◌&&◌, eqb, leb, List, [], ◌∷◌, ◌++◌, map, length, get_or, set, replicate, Some, None, Ok, count_by, Option, sym, refl, ap, ◌∙◌, subst, inl, ⊎_elim, arith, lit<, lit≤}
+use Rattle.std.proofs.Common.{◌≡◌, ℕ, zero, suc, ◌<◌, ◌≤◌, true, false, cond, ◌&&◌, eqb, leb, List, [], ◌∷◌, ◌++◌, length, get_or, set, replicate, Some, None, Ok, count_by, Option, sym, refl, ap, ◌∙◌, subst, inl, ⊎_elim, arith, lit<, lit≤}
 use Rattle.std.specs.List.{range_with_len}
 use Rattle.std.specs.List.Sorted.{IsPermutation}
 use Rattle.std.proofs.lemmas.List.{length-append}
 use Rattle.std.proofs.lemmas.List.Sorted.{IsPermutation-refl, IsPermutation-cons, IsPermutation-trans, IsPermutation-to_front, length_permutation}
 use Rattle.std.proofs.lemmas.Bool.{both_ways}
 use Rattle.ranking.specs.Kinds.{cents_atleast}
-use Rattle.matching.specs.Pairs.{◌∈◌}
 use Rattle.matching.proofs.In.{in_shuffled, in_unshuffled}
-use Rattle.sheet.specs.Graph.{Graph, row_end}
+use Rattle.sheet.specs.Graph.{row_end}
 use Rattle.sheet.specs.Check.{Sound}
 use Rattle.pairing.specs.Above.{entry_above}
 use Rattle.pairing.proofs.Compared.{cents_lawful}
@@ -17,15 +16,15 @@ use Rattle.line.specs.declared.Note.{Note}
 use Rattle.records.specs.declared.Record.{Record}
 use Rattle.records.specs.Records.{record_of, state, chosen, chosen_place}
 use Rattle.protocol.specs.World.{World, fits}
-use Rattle.protocol.specs.Marks.{open', bidden, bid, drop, open_others}
+use Rattle.protocol.specs.Marks.{open', bidden, bid, drop}
 use Rattle.protocol.specs.Steps.{Chooses, alone, waits, pairs, Receives, hears, agrees, loses, turns, heard, with_choice}
-use Rattle.protocol.specs.Turns.{counted, Started, StartRefused, begun, Fetched, stray}
+use Rattle.protocol.specs.Turns.{counted, Started, begun, Fetched, stray}
 use Rattle.protocol.specs.History.{Opened, start, fetch, After, opened, then}
 use Rattle.protocol.proofs.Holds.{fits_facts, facts_fit}
 use Rattle.protocol.proofs.Refusals.{one_top}
 use Rattle.protocol.proofs.Tops.{gone_marks, can_let_go}
 use Rattle.known.specs.Sheets.{path}
-use Rattle.known.specs.Known.{ThreeTurns, ThreeCalls}
+use Rattle.known.specs.Known.{ThreeTurns}
 
 -- a list with the same element everywhere
 all_same : {A : Type 0} (d : A) (xs : List A) → ((k : ℕ) → get_or xs k d ≡ d) → xs ≡ replicate (length xs) d

@@ -1,15 +1,13 @@
 -- Entries, the notes along them, and the pairs that they make. Assumes nothing.
-use Rattle.std.proofs.Common.{◌≡◌, ℕ, ◌<◌, min, max, Bool, true, false, ◌||◌, eqb, ◌⊎◌, sym, refl, ap, ◌∙◌, subst, inl, inr, ⊎_elim, arith}
-use Rattle.std.proofs.lemmas.Bool.{or_cases, eqb-true, eq-eqb, or_left}
+use Rattle.std.proofs.Common.{◌≡◌, ℕ, Bool, true, ◌⊎◌, sym, ap, ◌∙◌, subst, inl, inr, ⊎_elim, arith}
 use Rattle.std.proofs.lemmas.Bool.Decides.{nat_tests}
 use Rattle.line.specs.declared.Note.{Note}
 use Rattle.matching.specs.Pairs.{Pair, holds, touch}
-use Rattle.ranking.specs.Law.{Lawful}
-use Rattle.sheet.specs.Graph.{Graph, InRow, parcels, other, mirror, parcel_right}
+use Rattle.sheet.specs.Graph.{Graph, InRow, other, mirror}
 use Rattle.sheet.specs.Check.{Sound}
 use Rattle.sheet.proofs.Rows.{one_row}
 use Rattle.pairing.specs.Pairs.{joint}
-use Rattle.pairing.proofs.Entries.{one_place, mirror_in, mirror_names, mirror_back}
+use Rattle.pairing.proofs.Entries.{one_place, mirror_in, mirror_names}
 use Rattle.pairing.proofs.Members.{joint_back}
 use Rattle.protocol.specs.Marks.{bid, drop}
 use Rattle.protocol.proofs.Core.{pair_at}

@@ -1,27 +1,26 @@
 -- What is recorded belongs to the greedy pairing, and a settled round records it entire. Assumes nothing.
-use Rattle.std.proofs.Common.{◌≡◌, ℕ, zero, suc, ◌+◌, ◌<◌, ◌≤◌, Bool, true, false, eqb, ◌⊎◌, List, map, length, get_or, sum_by, filter, sym, refl, ap, ◌∙◌, subst, inl, inr, ⊎_elim, arith}
+use Rattle.std.proofs.Common.{◌≡◌, ℕ, zero, suc, ◌+◌, ◌<◌, ◌≤◌, Bool, true, eqb, ◌⊎◌, List, map, length, filter, sym, ap, ◌∙◌, subst, inl, inr, ⊎_elim, arith}
 use Rattle.std.specs.List.{range_with_len}
 use Rattle.std.proofs.lemmas.Bool.{both_ways, eqb-true, eq-eqb, cases_eq}
 use Rattle.ranking.specs.Law.{Lawful}
-use Rattle.matching.specs.Pairs.{Pair, holds, touch, ◌∈◌, Disjoint}
+use Rattle.matching.specs.Pairs.{Pair, holds, touch, ◌∈◌}
 use Rattle.matching.specs.Stable.{Beaten, Backed, Stable}
-use Rattle.matching.specs.Half.{Once, Pairing}
 use Rattle.matching.proofs.In.{in_map, map_in}
 use Rattle.matching.proofs.Members.{kept_was, kept_stays, holders_touch}
 use Rattle.matching.proofs.Greedy.{greedy_stable}
 use Rattle.matching.proofs.Stable.{backed_greedy}
-use Rattle.sheet.specs.Graph.{Graph, InRow, parcels, other, mirror, row_start, row_end}
+use Rattle.sheet.specs.Graph.{Graph, InRow, parcels, other, mirror, row_end}
 use Rattle.sheet.specs.Check.{Sound, Alike}
 use Rattle.pairing.specs.Pairs.{joint, sheet_pairs}
 use Rattle.pairing.specs.Above.{above, greedy_pairing}
 use Rattle.pairing.proofs.Members.{pair_in, pair_from, joint_up, joint_back}
 use Rattle.pairing.proofs.Orders.{above_ordered}
 use Rattle.records.specs.declared.Record.{Record}
-use Rattle.records.specs.Records.{state, choice, chosen_place, chosen, RecordsPair, RecordsLone, Entire}
+use Rattle.records.specs.Records.{state, chosen_place, RecordsPair, Entire}
 use Rattle.records.specs.Listed.{lower_pairs}
 use Rattle.records.proofs.Laws.{pairs_listed}
 use Rattle.protocol.proofs.Core.{Core, Inv, Out, pair_at}
-use Rattle.protocol.proofs.Entries.{joint_left, joint_right, joint_holds}
+use Rattle.protocol.proofs.Entries.{joint_left, joint_holds}
 use Rattle.protocol.proofs.Step.{joint_other}
 
 -- the numbers below n

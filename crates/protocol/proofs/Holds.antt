@@ -1,17 +1,16 @@
 -- What holds after every list of calls. Assumes nothing.
-use Rattle.std.proofs.Common.{◌≡◌, ℕ, zero, suc, ◌+◌, ◌-◌, ◌<◌, ◌≤◌, min, Bool, true, false, cond, not, ◌&&◌, ◌||◌, eqb, ltb, leb, ◌⊎◌, List, [], ◌∷◌, ◌++◌, length, get_or, set, Ok, Err, sum_by, count_by, Result, sym, refl, ap, ◌∙◌, subst, inl, inr, ⊎_elim, arith}
+use Rattle.std.proofs.Common.{◌≡◌, ℕ, zero, suc, ◌+◌, ◌<◌, ◌≤◌, min, Bool, true, false, cond, not, ◌&&◌, ◌||◌, eqb, leb, List, ◌∷◌, ◌++◌, length, set, Ok, Err, sum_by, count_by, Result, sym, refl, ap, ◌∙◌, subst, inl, ⊎_elim, arith}
 use lib.Bits.{bit_and}
 use Rattle.std.specs.List.{range_with_len}
-use Rattle.std.specs.List.Sorted.{IsPermutation}
 use Rattle.std.proofs.lemmas.List.FromFn.{length-range_with_len}
 use Rattle.std.proofs.lemmas.List.Sums.{sum_by-cons, count_by-le-length}
 use Rattle.std.proofs.lemmas.List.Sorted.{length_permutation, IsPermutation-refl}
 use Rattle.std.proofs.lemmas.List.{get_or-set_same, get_or-set_other, length-append, length-set}
-use Rattle.std.proofs.lemmas.Bool.{cases_eq, cases_Bool, both_ways, eq-eqb, and_from, le-leb}
+use Rattle.std.proofs.lemmas.Bool.{cases_eq, both_ways}
 use Rattle.std.proofs.lemmas.Bool.Decides.{nat_tests}
 use Rattle.line.specs.declared.Note.{Note}
 use Rattle.records.specs.declared.Record.{Record}
-use Rattle.records.specs.Records.{record_of, state, choice, chosen_place, astray}
+use Rattle.records.specs.Records.{record_of, state, chosen_place}
 use Rattle.ranking.specs.Law.{Lawful}
 use Rattle.matching.specs.Pairs.{◌∈◌}
 use Rattle.matching.proofs.In.{in_shuffled, in_unshuffled}
@@ -24,15 +23,15 @@ use Rattle.protocol.specs.Marks.{open', bidden, bid, drop, places}
 use Rattle.protocol.specs.Steps.{Chooses, alone, waits, pairs, Receives, hears, agrees, loses, turns}
 use Rattle.protocol.specs.Turns.{Changes, Started, Start, Fetched, Fetch, counted}
 use Rattle.protocol.specs.Runs.{Ran, other_sizes, still, spent, refused_start, refused_fetch, then_start, then_fetch}
-use Rattle.protocol.specs.History.{Opened, Call, start, fetch, run, refused_close, Did, After, opened, then}
+use Rattle.protocol.specs.History.{Opened, Call, start, fetch, run, refused_close, After, opened, then}
 use Rattle.protocol.specs.Law.{started}
 use Rattle.protocol.specs.declared.Ending.{Ending}
-use Rattle.protocol.proofs.Core.{Core, Inv, Same, inv_same, upd, upd_same, upd_other}
+use Rattle.protocol.proofs.Core.{Core, Inv, inv_same, upd, upd_same, upd_other}
 use Rattle.protocol.proofs.Entries.{row_of}
 use Rattle.protocol.proofs.Marks.{in_places}
 use Rattle.protocol.proofs.Long.{chooses_long, receives_long}
 use Rattle.protocol.proofs.Step.{core, chooses_inv, receives_bid, receives_drop}
-use Rattle.protocol.proofs.Sums.{sum_same, sum_but, count_same, count_in}
+use Rattle.protocol.proofs.Sums.{sum_but, count_same, count_in}
 use Rattle.protocol.proofs.Used.{used, used_cases, row_used, used_count, used_few, chooses_used, chooses_elsewhere, bid_used, drop_used, bid_elsewhere, drop_elsewhere, awaited_facts}
 
 -- the states and chosen places after one record was written

@@ -1,45 +1,39 @@
 -- The law of rounds. Assumes nothing.
-use Rattle.std.proofs.Common.{◌≡◌, ℕ, zero, suc, ◌+◌, ◌-◌, ◌*◌, ◌<◌, ◌≤◌, Bool, true, false, not, ◌&&◌, ◌||◌, eqb, ltb, leb, ◌⊎◌, List, [], ◌∷◌, ◌++◌, length, get_or, set, is_some, Some, None, sum_by, count_by, Option, unwrap_or, sym, refl, ap, ◌∙◌, subst, inl, inr, ⊎_elim, arith}
+use Rattle.std.proofs.Common.{◌≡◌, ℕ, zero, suc, ◌*◌, ◌<◌, ◌≤◌, Bool, true, false, not, ◌&&◌, ◌||◌, eqb, ltb, leb, ◌⊎◌, List, [], ◌∷◌, length, get_or, is_some, Some, None, sum_by, Option, unwrap_or, sym, refl, ap, ◌∙◌, subst, inl, inr, ⊎_elim, arith}
 use Rattle.std.specs.Option.{option_map}
-use Rattle.std.specs.List.{ContainsAt as Has, AllZip, AllByRecursion as All}
-use Rattle.std.specs.List.Sorted.{IsPermutation}
-use Rattle.std.proofs.ByRecursion.{all-has}
-use Rattle.std.proofs.lemmas.List.Sorted.{IsPermutation-refl}
-use Rattle.std.proofs.lemmas.Bool.{both_ways, cases_eq, cases_Bool, eqb-true, eq-eqb, ne_eqb, or_from, and_left, and_right, le-ltb, lt-ltb, lt-leb, leb-true, false≢true, not_from_true, or_cases, or_left, or_right}
-use Rattle.std.proofs.lemmas.Bool.Decides.{nat_tests}
+use Rattle.std.specs.List.{AllZip, AllByRecursion as All}
+use Rattle.std.proofs.lemmas.Bool.{both_ways, cases_eq, cases_Bool, eqb-true, eq-eqb, or_from, and_left, and_right, le-ltb, lt-ltb, lt-leb, leb-true, false≢true, not_from_true, or_cases, or_left, or_right}
 use Rattle.line.specs.declared.Note.{Note}
 use Rattle.line.specs.Law as lines
 use Rattle.ranking.specs.Law.{Lawful, lifted}
 use Rattle.ranking.proofs.Lifted.{lifted_lawful}
-use Rattle.matching.specs.Pairs.{Pair, holds, touch, same, ◌∈◌}
+use Rattle.matching.specs.Pairs.{Pair, ◌∈◌}
 use Rattle.matching.specs.Stable.{Stable}
-use Rattle.matching.specs.Half.{Pairing, Answers, Named}
+use Rattle.matching.specs.Half.{Pairing, Answers}
 use Rattle.matching.proofs.In.{has_member}
 use Rattle.matching.proofs.Half.{named, stable_half}
 use Rattle.matching.proofs.Stable.{rank, rank_falls}
-use Rattle.sheet.specs.Graph.{Graph, InRow, parcels, entries, other, mirror, row_start, row_end, place_of}
+use Rattle.sheet.specs.Graph.{Graph, InRow, parcels, other, mirror, row_end}
 use Rattle.sheet.specs.Check.{Sound, Alike}
 use Rattle.sheet.proofs.Facts.{parcel_facts}
 use Rattle.pairing.specs.Pairs.{joint, sheet_pairs, pair_key}
 use Rattle.pairing.specs.Above.{above, greedy_pairing}
-use Rattle.pairing.proofs.Entries.{mirror_in, mirror_names, mirror_back, other_below, one_place}
+use Rattle.pairing.proofs.Entries.{mirror_in, mirror_back, other_below, one_place}
 use Rattle.pairing.proofs.Members.{pair_in}
 use Rattle.pairing.proofs.Keys.{itself}
 use Rattle.pairing.proofs.Orders.{above_ordered}
 use Rattle.pairing.proofs.Compared.{above_key}
-use Rattle.records.specs.declared.Record.{Record}
-use Rattle.records.specs.Records.{record_of, state, choice, chosen_place, chosen, astray, RecordsPair, Entire}
+use Rattle.records.specs.Records.{record_of, state, chosen_place, astray, Entire}
 use Rattle.records.specs.Listed.{lower_pairs}
-use Rattle.protocol.specs.World.{World, fits, free}
-use Rattle.protocol.specs.Marks.{open', bidden, bid, drop, note_along}
-use Rattle.protocol.specs.Steps.{Chooses, Receives, entry_of}
-use Rattle.protocol.specs.Turns.{Changes, counted, StartAccepted, FetchAccepted, stray}
+use Rattle.protocol.specs.World.{World, free}
+use Rattle.protocol.specs.Marks.{bid, drop, note_along}
+use Rattle.protocol.specs.Turns.{StartAccepted, FetchAccepted, stray}
 use Rattle.protocol.specs.History.{Call, After}
-use Rattle.protocol.specs.Law.{Settled, started, SomeTurn, Covers, Covered, Law, pair_value}
-use Rattle.protocol.proofs.Core.{Core, Inv, Out, BidSent, pair_at}
+use Rattle.protocol.specs.Law.{Settled, SomeTurn, Covers, Covered, Law, pair_value}
+use Rattle.protocol.proofs.Core.{Core, Inv, BidSent, pair_at}
 use Rattle.protocol.proofs.Entries.{mirror_pair}
 use Rattle.protocol.proofs.Step.{joint_other}
-use Rattle.protocol.proofs.Used.{used, used_cases, row_used, used_count, used_few, chooses_used, chooses_elsewhere, bid_used, drop_used, bid_elsewhere, drop_elsewhere}
+use Rattle.protocol.proofs.Used.{used_few, chooses_used, chooses_elsewhere, bid_used, drop_used, bid_elsewhere, drop_elsewhere}
 use Rattle.protocol.proofs.Holds.{core_of, Holds, FitsFacts, fits_facts, after_holds, send_room, idle_used}
 use Rattle.protocol.proofs.Long.{chooses_long, receives_long}
 use Rattle.protocol.proofs.Tops.{can_choose, can_receive, Receipt}

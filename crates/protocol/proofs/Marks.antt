@@ -1,7 +1,7 @@
 -- The bits of a mark, and the places of a row. Assumes nothing.
-use Rattle.std.proofs.Common.{◌≡◌, ℕ, zero, suc, ◌+◌, ◌-◌, ◌*◌, ◌/◌, ◌%◌, ◌<◌, ◌≤◌, min, max, Bool, true, false, cond, not, ◌&&◌, eqb, ltb, leb, ◌⊎◌, List, [], ◌∷◌, length, get_or, sym, refl, ap, ◌∙◌, subst, inl, inr, ⊎_elim, arith}
-use lib.Bits.{bit_and, bit_or, and_step, or_step, or_zero_r, and_zero_r, and_mask}
-use Rattle.std.proofs.lemmas.Bool.{and_parts, and_from, not-true, not_from_false, eqb-false, eqb-true, eq-eqb, ne_eqb, ltb-true, lt-ltb, leb-true, le-leb, cases_eq}
+use Rattle.std.proofs.Common.{◌≡◌, ℕ, zero, suc, ◌+◌, ◌-◌, ◌*◌, ◌/◌, ◌%◌, ◌<◌, ◌≤◌, min, max, true, false, not, ◌&&◌, eqb, ltb, leb, List, get_or, ap, ◌∙◌, inl, inr, ⊎_elim, arith}
+use lib.Bits.{bit_and, bit_or, and_step, or_step, or_zero_r, and_mask}
+use Rattle.std.proofs.lemmas.Bool.{and_parts, and_from, not-true, not_from_false, eqb-false, ne_eqb, ltb-true, lt-ltb, leb-true, le-leb, cases_eq}
 use Rattle.matching.specs.Pairs.{◌∈◌}
 use Rattle.matching.proofs.Members.{kept_was, kept_stays}
 use Rattle.sheet.specs.Graph.{Graph, InRow, parcels, row_start, row_end}

@@ -1,18 +1,17 @@
 -- A turn that is refused would not be accepted. Assumes nothing.
-use Rattle.std.proofs.Common.{◌≡◌, ℕ, ◌+◌, ◌<◌, ◌≤◌, Bool, true, false, not, ◌&&◌, ◌||◌, eqb, ltb, leb, List, [], ◌∷◌, map, length, get_or, Some, None, sym, refl, ap, ◌∙◌, subst, ⊎_elim, arith}
-use Rattle.std.proofs.lemmas.Bool.{both_ways, cases_eq, leb-true}
+use Rattle.std.proofs.Common.{◌≡◌, ℕ, Bool, true, false, not, ◌&&◌, ◌||◌, ltb, List, [], ◌∷◌, map, length, Some, None, sym, refl, ap, ◌∙◌, subst, ⊎_elim, arith}
+use Rattle.std.proofs.lemmas.Bool.{both_ways, cases_eq}
 use Rattle.std.proofs.lemmas.Bool.Decides.{nat_tests}
 use Rattle.line.specs.declared.Note.{Note}
 use Rattle.records.specs.declared.Record.{Record}
 use Rattle.records.specs.Records.{record_of, astray}
-use Rattle.ranking.specs.Law.{Lawful, lifted, alike}
+use Rattle.ranking.specs.Law.{Lawful, lifted}
 use Rattle.ranking.proofs.Lifted.{lifted_lawful}
-use Rattle.sheet.specs.Graph.{Graph, InRow, parcels, key}
-use Rattle.pairing.specs.Above.{entry_above}
+use Rattle.sheet.specs.Graph.{Graph, key}
 use Rattle.choosing.specs.Top.{Top}
-use Rattle.protocol.specs.World.{World, fits, free}
+use Rattle.protocol.specs.World.{World}
 use Rattle.protocol.specs.Marks.{open', bidden, bid, drop, open_others}
-use Rattle.protocol.specs.Steps.{LetsGo, Chooses, alone, waits, pairs, Receives, hears, agrees, loses, turns}
+use Rattle.protocol.specs.Steps.{Chooses, alone, waits, pairs, Receives, hears, agrees, loses, turns}
 use Rattle.protocol.specs.Turns.{StartAccepted, StartRefused, no_parcel, start_sizes, begun, start_strays, start_room, FetchAccepted, FetchRefused, no_store, fetch_sizes, nothing, stray_note, wrong_record, fetch_room, stray}
 
 same_some : (x y : Note) → Some x ≡ Some y → x ≡ y

@@ -1,7 +1,7 @@
 -- A parcel that chooses, and one that receives a note, keep the claims. Assumes nothing.
-use Rattle.std.proofs.Common.{◌≡◌, ℕ, ◌+◌, ◌-◌, ◌<◌, ◌≤◌, Bool, true, false, cond, ◌&&◌, eqb, ◌⊎◌, List, [], ◌∷◌, ◌++◌, length, get_or, set, sym, refl, ap, ◌∙◌, subst, inl, inr, ⊎_elim, arith}
+use Rattle.std.proofs.Common.{◌≡◌, ℕ, ◌+◌, ◌-◌, ◌<◌, Bool, true, false, cond, eqb, List, ◌∷◌, ◌++◌, length, get_or, sym, refl, ap, ◌∙◌, subst, inl, inr, ⊎_elim, arith}
 use Rattle.std.proofs.lemmas.List.{get_or-set_same, get_or-set_other}
-use Rattle.std.proofs.lemmas.Bool.{cases_eq, cases_Bool, cond_both, cond-true, cond-false, and_parts, and_from, eqb-true, eq-eqb, both_ways}
+use Rattle.std.proofs.lemmas.Bool.{cases_eq, cases_Bool, cond-true, cond-false, and_parts, and_from, eqb-true, eq-eqb, both_ways}
 use Rattle.line.specs.declared.Note.{Note}
 use Rattle.records.specs.declared.Record.{Record}
 use Rattle.ranking.specs.Law.{Lawful}
@@ -16,11 +16,11 @@ use Rattle.pairing.proofs.Orders.{above_ordered}
 use Rattle.choosing.specs.Top.{Top}
 use Rattle.choosing.proofs.Tops.{top_above}
 use Rattle.protocol.specs.Marks.{open', bidden, bid, drop, strike, let_go, open_others}
-use Rattle.protocol.specs.Steps.{LetsGo, Chooses, alone, waits, pairs, Receives, hears, agrees, loses, turns, heard, dropped, awaited, entry_of, with_choice}
-use Rattle.protocol.proofs.Core.{Core, Inv, Same, inv_same, BidSent, pair_at, upd, upd_same, upd_other}
+use Rattle.protocol.specs.Steps.{LetsGo, Chooses, alone, waits, pairs, Receives, hears, agrees, loses, turns, heard, dropped, awaited, entry_of}
+use Rattle.protocol.proofs.Core.{Core, Inv, inv_same, BidSent, pair_at, upd, upd_same, upd_other}
 use Rattle.protocol.proofs.Marks.{struck_closed, struck_bidden, heard_open, heard_bidden, same_open, same_bidden, gone_facts, facts_gone, others_gone, gone_others}
 use Rattle.protocol.proofs.Hear.{reset, reset_inv, hear, hear_inv, sent_now, lose, lose_inv}
-use Rattle.protocol.proofs.Choose.{Tops, send_bid, send_bid_inv, wait, wait_inv, lone, lone_inv, pair, pair_inv, Others}
+use Rattle.protocol.proofs.Choose.{Tops, send_bid_inv, wait, wait_inv, lone, lone_inv, pair, pair_inv, Others}
 
 -- a round by its states, chosen places, marks and notes
 abbrev pub core : (ℕ → ℕ) → (ℕ → ℕ) → List ℕ → List Note → Core

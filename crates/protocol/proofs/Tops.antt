@@ -1,5 +1,5 @@
 -- What a parcel would do always exists: a top entry, marks after letting go, a choice. Assumes nothing.
-use Rattle.std.proofs.Common.{◌≡◌, ℕ, ◌+◌, ◌<◌, ◌≤◌, Bool, true, false, cond, ◌⊎◌, List, [], ◌∷◌, map, length, get_or, sym, refl, ap, ◌∙◌, subst, inl, inr, ⊎_elim, arith}
+use Rattle.std.proofs.Common.{◌≡◌, ℕ, ◌<◌, Bool, true, false, cond, ◌⊎◌, List, [], ◌∷◌, map, length, get_or, sym, refl, ap, ◌∙◌, subst, inl, inr, ⊎_elim, arith}
 use Rattle.std.specs.List.{range_with_len}
 use Rattle.std.proofs.lemmas.List.FromFn.{length-map-range_with_len, get_or-map-range_with_len}
 use Rattle.std.proofs.lemmas.List.{get_or_past, length-set}
@@ -7,16 +7,16 @@ use Rattle.std.proofs.lemmas.Bool.{cases_Bool, cases_eq, cases_lt, cond-false, b
 use Rattle.line.specs.declared.Note.{Note}
 use Rattle.records.specs.declared.Record.{Record}
 use Rattle.ranking.specs.Law.{Lawful}
-use Rattle.matching.specs.Pairs.{Pair, ◌∈◌}
-use Rattle.sheet.specs.Graph.{Graph, InRow, parcels, entries, other, row_start}
+use Rattle.matching.specs.Pairs.{◌∈◌}
+use Rattle.sheet.specs.Graph.{Graph, InRow, parcels, entries, other}
 use Rattle.sheet.specs.Check.{Sound, Alike}
 use Rattle.pairing.specs.Pairs.{joint}
 use Rattle.pairing.specs.Above.{above}
 use Rattle.pairing.proofs.Entries.{one_place, place_below}
 use Rattle.pairing.proofs.Orders.{above_ordered, row_above}
 use Rattle.choosing.specs.Top.{Top}
-use Rattle.protocol.specs.Marks.{open', bidden, bid, drop, strike, let_go, open_others, places}
-use Rattle.protocol.specs.Steps.{LetsGo, Chooses, alone, waits, pairs, Receives, hears, agrees, loses, turns, heard, dropped, awaited, entry_of, with_choice}
+use Rattle.protocol.specs.Marks.{open', bidden, drop, strike, let_go, open_others, places}
+use Rattle.protocol.specs.Steps.{LetsGo, Chooses, alone, waits, pairs, Receives, hears, agrees, loses, turns, heard, dropped, awaited, entry_of}
 use Rattle.protocol.proofs.Marks.{place_in, in_places, gone_facts}
 use Rattle.protocol.proofs.Step.{joint_other}
 

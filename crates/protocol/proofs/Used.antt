@@ -1,10 +1,10 @@
 -- How many entries are used: struck, or the choice of a parcel that waits or is paired. A turn sends no more notes than it newly uses. Assumes nothing.
-use Rattle.std.proofs.Common.{◌≡◌, ℕ, zero, suc, ◌+◌, ◌-◌, ◌<◌, ◌≤◌, Bool, true, false, cond, not, ◌&&◌, ◌||◌, eqb, ◌⊎◌, List, [], ◌∷◌, length, get_or, sum_by, count_by, filter, sym, refl, ap, ◌∙◌, subst, inl, inr, ⊎_elim, arith}
+use Rattle.std.proofs.Common.{◌≡◌, ℕ, zero, suc, ◌+◌, ◌-◌, ◌<◌, ◌≤◌, Bool, true, false, not, ◌&&◌, ◌||◌, eqb, ◌⊎◌, List, length, get_or, sum_by, count_by, sym, refl, ap, ◌∙◌, subst, inl, inr, ⊎_elim, arith}
 use Rattle.std.specs.List.{range_with_len}
 use Rattle.std.proofs.lemmas.List.Sums.{sum_by-cons, length-filter, count_by-le-length}
 use Rattle.std.proofs.lemmas.List.{length-map}
 use Rattle.std.proofs.lemmas.Bool.Decides.{nat_tests}
-use Rattle.std.proofs.lemmas.Bool.{cases_lt, cases_eq, cases_Bool, both_ways, or_left, or_right, or_cases, not_from_false, not_from_true, not-true, not-false, and_parts, and_from, eq-eqb, eqb-true, eqb-false, ne_eqb, cond-true, cond-false}
+use Rattle.std.proofs.lemmas.Bool.{cases_lt, cases_eq, cases_Bool, both_ways, or_left, or_right, or_cases, not_from_false, not_from_true, not-true, and_parts, and_from, eq-eqb, eqb-true, eqb-false, cond-true, cond-false}
 use Rattle.line.specs.declared.Note.{Note}
 use Rattle.records.specs.declared.Record.{Record}
 use Rattle.records.specs.Records.{state, chosen_place}
@@ -14,13 +14,12 @@ use Rattle.sheet.specs.Graph.{Graph, InRow, parcels, entries, other, mirror, row
 use Rattle.sheet.specs.Check.{Sound, Alike}
 use Rattle.pairing.proofs.Entries.{mirror_in}
 use Rattle.sheet.proofs.Facts.{parcel_facts}
-use Rattle.choosing.specs.Top.{Top}
-use Rattle.protocol.specs.Marks.{open', bidden, bid, drop, strike, let_go, open_others, places}
+use Rattle.protocol.specs.Marks.{open', bid, drop, strike, let_go, open_others, places}
 use Rattle.protocol.specs.Steps.{LetsGo, Chooses, alone, waits, pairs, Receives, hears, agrees, loses, turns, heard, dropped, awaited, entry_of}
 use Rattle.protocol.proofs.Marks.{struck_closed, same_open, gone_facts, facts_gone, place_in, in_places}
 use Rattle.protocol.proofs.Core.{upd_same, upd_other}
 use Rattle.protocol.proofs.Step.{heard_opens, dropped_opens}
-use Rattle.protocol.proofs.Sums.{sum_le, count_same, count_two, count_in, count_more, length_places_from}
+use Rattle.protocol.proofs.Sums.{sum_le, count_two, count_in, count_more, length_places_from}
 
 -- the entry at place x is used: it is struck, or the parcel of its row, of this state and chosen place, chose it
 abbrev pub used : ℕ → ℕ → List ℕ → ℕ → Bool

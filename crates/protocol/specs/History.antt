@@ -1,7 +1,6 @@
 -- Histories: every list of calls since open, each beginning where the last one ended. Assumes nothing.
-use Rattle.std.specs.Prelude.{◌≡◌, ℕ, ◌<◌, ◌≤◌, Bool, true, false, ◌&&◌, ◌||◌, List, [], ◌∷◌, length, Ok, Err, Result, slice_index}
-use Rattle.records.specs.declared.Record.{Record}
-use Rattle.records.specs.Records.{record_of, state}
+use Rattle.std.specs.Prelude.{◌≡◌, ℕ, ◌≤◌, Bool, List, [], ◌∷◌, length, Result, slice_index}
+use Rattle.records.specs.Records.{record_of}
 use Rattle.sheet.specs.Graph.{Graph, parcels, entries}
 use Rattle.protocol.specs.World.{World}
 use Rattle.protocol.specs.Turns.{Start, Fetch}

@@ -1,5 +1,5 @@
 -- The marks of entries, and the notes that go along them. Assumes nothing.
-use Rattle.std.specs.Prelude.{ℕ, zero, suc, ◌-◌, Bool, cond, not, ◌&&◌, List, [], ◌∷◌, filter, ◌==◌, bit_and, bit_or, nat_le, nat_lt, slice_index}
+use Rattle.std.specs.Prelude.{ℕ, zero, suc, ◌-◌, Bool, not, ◌&&◌, List, [], ◌∷◌, filter, ◌==◌, bit_and, bit_or, nat_le, nat_lt, slice_index}
 use Rattle.line.specs.declared.Note.{Note}
 use Rattle.sheet.specs.Graph.{Graph, row_start, row_end, other}
 

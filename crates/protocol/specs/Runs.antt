@@ -1,5 +1,5 @@
 -- Runs: which turn comes next, and how a run ends. Assumes nothing.
-use Rattle.std.specs.Prelude.{◌≡◌, ℕ, zero, suc, ◌<◌, Bool, true, false, is_some, None, ◌≢◌}
+use Rattle.std.specs.Prelude.{◌≡◌, ℕ, suc, ◌<◌, Bool, true, false, is_some, None, ◌≢◌}
 use Rattle.records.specs.Records.{state}
 use Rattle.sheet.specs.Graph.{Graph, parcels}
 use Rattle.protocol.specs.World.{World, fits}

@@ -1,7 +1,5 @@
 -- The two kinds of key, and the laws that they keep. Assumes nothing.
-use Rattle.std.specs.Prelude.{◌≡◌, ℕ, Bool, true, false, ◌&&◌, ◌||◌, ◌==◌, nat_le, nat_lt}
-use Rattle.std.proofs.Common.{arith}
-use Rattle.ranking.specs.Law.{Lawful}
+use Rattle.std.specs.Prelude.{ℕ, Bool, ◌&&◌, ◌||◌, ◌==◌, nat_le, nat_lt}
 use Rattle.ranking.specs.declared.Cents.{Cents}
 use Rattle.ranking.specs.declared.Staged.{Staged}
 

@@ -1,5 +1,5 @@
 -- A reading has one outcome only. Assumes nothing.
-use Rattle.std.proofs.Common.{◌≡◌, ℕ, ◌+◌, ◌-◌, ◌<◌, ◌≤◌, ◌⊎◌, List, [], ◌∷◌, ◌++◌, map, length, get_or, take, drop, Ok, Err, Result, sym, refl, ap, ◌∙◌, subst, inl, inr, ⊎_elim, arith, take-append-drop}
+use Rattle.std.proofs.Common.{◌≡◌, ℕ, ◌+◌, ◌-◌, ◌≤◌, List, [], ◌∷◌, map, length, get_or, take, drop, Err, Result, sym, refl, ap, ◌∙◌, subst, inl, inr, ⊎_elim, arith, take-append-drop}
 use Rattle.std.specs.List.{AllByRecursion as All}
 use Rattle.std.proofs.ByRecursion.{All-take}
 use Rattle.std.proofs.lemmas.List.{length-map, length-take-le, map-append}
@@ -8,12 +8,11 @@ use Rattle.text.specs.Rows.{Begins}
 use Rattle.text.proofs.OneWay.{one_row}
 use Rattle.reading.specs.declared.Sizes.{Sizes}
 use Rattle.reading.specs.declared.rows.Parcel.{Parcel}
-use Rattle.reading.specs.Listing.{Entry, Listing, sizes_row, parcel_rows, entry_row, rows, FitParcel, FitEntry, NeverFalls, Listed, FirstLine, RightLines, WrongAfter}
+use Rattle.reading.specs.Listing.{Entry, Listing, sizes_row, parcel_rows, entry_row, FitParcel, FitEntry, NeverFalls, Listed, FirstLine, RightLines, WrongAfter}
 use Rattle.reading.specs.Outcome.{Tables, Within, Room, filled, Tried, Refused, OtherLines, Outcome, Read}
-use Rattle.reading.specs.Passing.{Parcels, Entries}
 use Rattle.reading.proofs.Next.{same_end, begins_part, length_parcel_rows, falls_front}
 use Rattle.reading.proofs.Passed.{parcel_rows_append, row_of}
-use Rattle.reading.proofs.Wrong.{so_far, nothing, after_first, entries_there}
+use Rattle.reading.proofs.Wrong.{so_far, nothing, after_first}
 
 first_one : {z y : Sizes} {bs : List ℕ} → FirstLine z bs → FirstLine y bs → y ≡ z
 first_one f g =

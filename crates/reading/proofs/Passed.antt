@@ -1,8 +1,8 @@
 -- One line more is passed. Assumes nothing.
-use Rattle.std.proofs.Common.{◌≡◌, ℕ, ◌+◌, ◌<◌, ◌≤◌, List, [], ◌∷◌, ◌++◌, map, length, sym, refl, ap, ◌∙◌, subst, arith}
+use Rattle.std.proofs.Common.{◌≡◌, ℕ, ◌+◌, ◌≤◌, List, [], ◌∷◌, ◌++◌, map, length, sym, refl, ap, ◌∙◌, subst, arith}
 use Rattle.std.proofs.ByRecursion.{All-push}
 use Rattle.std.proofs.lemmas.List.{map_push}
-use Rattle.text.specs.Rows.{Begins, none, line}
+use Rattle.text.specs.Rows.{Begins}
 use Rattle.text.proofs.OneWay.{begins_append}
 use Rattle.reading.specs.declared.rows.Parcel.{Parcel}
 use Rattle.reading.specs.Listing.{Entry, parcel_row, parcel_rows, entry_row, FitParcel, FitEntry, NeverFalls}

@@ -1,5 +1,5 @@
 -- A small listing, worked out. Assumes nothing.
-use Rattle.std.specs.Prelude.{◌≡◌, ℕ, List, [], ◌∷◌}
+use Rattle.std.specs.Prelude.{◌≡◌, ℕ, [], ◌∷◌}
 use Rattle.reading.specs.Listing.{Entry, Listing, rows}
 use Rattle.reading.specs.Outcome.{laid, starts_of}
 

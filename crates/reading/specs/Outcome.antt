@@ -2,7 +2,6 @@
 use Rattle.std.specs.Prelude.{◌≡◌, ℕ, ◌+◌, ◌≤◌, ◌⊎◌, List, ◌++◌, map, length, drop, Ok, Err, count_by, Result, nat_lt}
 use Rattle.std.specs.List.{range_with_len}
 use Rattle.reading.specs.declared.Sizes.{Sizes}
-use Rattle.reading.specs.declared.rows.Parcel.{Parcel}
 use Rattle.reading.specs.Listing.{Entry, Listing, key_of, Listed, FirstLine, WrongAfter}
 
 -- the tables that are lent

@@ -1,5 +1,5 @@
 -- Lines that are passed one by one, up to the first that is wrong. Assumes nothing.
-use Rattle.std.specs.Prelude.{◌≡◌, ℕ, ◌<◌, List, [], ◌∷◌, ◌++◌, map, length}
+use Rattle.std.specs.Prelude.{◌≡◌, ℕ, List, [], ◌∷◌, ◌++◌, map, length}
 use Rattle.std.specs.List.{AllByRecursion as All}
 use Rattle.text.specs.Rows.{Begins}
 use Rattle.reading.specs.declared.Sizes.{Sizes}

@@ -1,7 +1,7 @@
 -- Records are right or refused, and in one way only. Assumes nothing.
-use Rattle.std.proofs.Common.{◌≡◌, ℕ, List, sym, refl, subst, ⊎_elim}
+use Rattle.std.proofs.Common.{◌≡◌, ℕ, List, refl, ⊎_elim}
 use Rattle.std.proofs.lemmas.Bool.{both_ways, cases_order}
-use Rattle.sheet.specs.Graph.{Graph, parcels}
+use Rattle.sheet.specs.Graph.{Graph}
 use Rattle.records.specs.declared.Record.{Record}
 use Rattle.records.specs.Records.{astray}
 use Rattle.records.specs.Right.{Right, Refused, wrong_length, strays, FirstAstray}

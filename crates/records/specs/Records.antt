@@ -1,7 +1,6 @@
 -- What records say of a sheet. Assumes nothing.
-use Rattle.std.specs.Prelude.{◌≡◌, ℕ, zero, suc, ◌+◌, ◌<◌, Bool, true, cond, not, ◌&&◌, ◌||◌, List, [], ◌∷◌, ◌++◌, length, Some, None, Option, ◌==◌, ◌≢◌, nat_le, nat_lt, slice_index_or}
+use Rattle.std.specs.Prelude.{◌≡◌, ℕ, ◌+◌, ◌<◌, Bool, true, cond, ◌&&◌, ◌||◌, List, length, Some, None, Option, ◌==◌, ◌≢◌, nat_le, nat_lt, slice_index_or}
 use Rattle.matching.specs.Pairs.{Pair, holds, ◌∈◌}
-use Rattle.pairing.specs.Pairs.{joint}
 use Rattle.sheet.specs.Graph.{Graph, parcels, row_start, row_end, other}
 use Rattle.records.specs.declared.Record.{Record}
 

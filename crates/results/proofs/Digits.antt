@@ -1,8 +1,7 @@
 -- The digits of a number that 32 bits hold, written from the last to the first. Assumes nothing.
-use Rattle.std.proofs.Common.{◌≡◌, ℕ, suc, ◌+◌, ◌-◌, ◌/◌, ◌%◌, ◌<◌, ◌≤◌, List, [], ◌∷◌, ◌++◌, length, take, drop, set, decimal, sym, refl, ap, ◌∙◌, subst, append_assoc, add-one, arith}
+use Rattle.std.proofs.Common.{◌≡◌, ℕ, ◌+◌, ◌-◌, ◌/◌, ◌%◌, ◌<◌, ◌≤◌, List, [], ◌∷◌, ◌++◌, length, take, drop, set, decimal, sym, ap, ◌∙◌, append_assoc, add-one, arith}
 use Rattle.std.proofs.lemmas.Fmt.{decimal_digit, decimal_step, decimal_nonempty, length-decimal-le}
-use Rattle.std.proofs.lemmas.List.{length_push, drop-set, set_split, take-set-le}
-use Rattle.results.specs.Text.{put_in}
+use Rattle.std.proofs.lemmas.List.{length_push, drop-set, set_split}
 
 pub digits_one : (n : ℕ) → n < 10 → length (decimal n) ≡ 1
 digits_one n less = ap length (decimal_digit n less)

@@ -1,5 +1,5 @@
 -- A line of numbers, one number after another. Assumes nothing.
-use Rattle.std.proofs.Common.{◌≡◌, ℕ, ◌+◌, ◌<◌, ◌≤◌, List, [], ◌∷◌, ◌++◌, length, get_or, drop, decimal, sym, refl, ap, ◌∙◌, arith}
+use Rattle.std.proofs.Common.{◌≡◌, ℕ, ◌+◌, ◌<◌, ◌≤◌, List, [], ◌++◌, length, get_or, drop, decimal, sym, ap, arith}
 use Rattle.std.proofs.lemmas.List.{drop_more, drop_all, length-append, length_push}
 use Rattle.results.specs.Text.{field, mark, line}
 

@@ -1,14 +1,14 @@
 -- A plan that was carried out is a choice. Assumes nothing.
-use Rattle.std.proofs.Common.{◌≡◌, ℕ, ◌+◌, ◌<◌, ◌≤◌, Bool, true, false, List, [], ◌∷◌, ◌++◌, length, sym, refl, ap, ◌∙◌, subst, arith}
+use Rattle.std.proofs.Common.{◌≡◌, ℕ, ◌+◌, ◌<◌, Bool, List, [], ◌∷◌, ◌++◌, length, sym, refl, ap, ◌∙◌, subst, arith}
 use Rattle.std.specs.List.Sorted.{IsPermutation}
 use Rattle.std.proofs.lemmas.List.{length-map}
 use Rattle.std.proofs.lemmas.List.Sorted.{IsPermutation-refl, IsPermutation-trans}
 use Rattle.line.specs.declared.Note.{Note}
 use Rattle.records.specs.declared.Record.{Record}
-use Rattle.sheet.specs.Graph.{Graph, InRow, parcels, entries}
+use Rattle.sheet.specs.Graph.{Graph, parcels, entries}
 use Rattle.sheet.specs.Check.{Sound}
 use Rattle.choosing.specs.Top.{Top}
-use Rattle.protocol.specs.Marks.{open', bidden, bid, drop, open_others}
+use Rattle.protocol.specs.Marks.{open', bid, drop, open_others}
 use Rattle.protocol.specs.Steps.{Chooses, alone, waits, pairs, with_choice, lone_record}
 use Rattle.protocol.proofs.Tops.{can_let_go}
 use Rattle.round.specs.Parts.{Planned, sends, LetGo, Chose}

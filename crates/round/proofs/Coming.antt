@@ -1,5 +1,5 @@
 -- What it says of a note that it comes to its store. Assumes nothing.
-use Rattle.std.proofs.Common.{◌≡◌, ℕ, ◌<◌, ◌≤◌, Bool, true, false, cond, not, ◌&&◌, ◌||◌, eqb, ltb, ◌⊎◌, List, length, get_or, Some, None, unwrap_or, sym, ap, ◌∙◌, inl, inr, ⊎_elim, arith}
+use Rattle.std.proofs.Common.{◌≡◌, ℕ, ◌<◌, Bool, true, false, cond, not, ◌||◌, eqb, ltb, ◌⊎◌, List, length, get_or, Some, None, unwrap_or, ap, inl, inr, ⊎_elim}
 use Rattle.std.proofs.lemmas.Bool.{or_parts, or_cases, not-false, ltb-true, eqb-true, and_from, eq-eqb, lt-ltb}
 use Rattle.line.specs.declared.Note.{Note}
 use Rattle.records.specs.declared.Record.{Record}

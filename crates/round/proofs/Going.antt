@@ -1,11 +1,11 @@
 -- Letting go, place by place of the row. Assumes nothing.
 use Rattle.std.proofs.Common.{◌≡◌, ℕ, ◌+◌, ◌-◌, ◌<◌, ◌≤◌, Bool, true, false, cond, not, ◌&&◌, eqb, ltb, List, [], ◌∷◌, ◌++◌, map, length, get_or, set, filter, sym, refl, ap, ◌∙◌, subst, ⊎_elim, arith}
 use Rattle.std.specs.List.Sorted.{IsPermutation}
-use Rattle.std.proofs.lemmas.List.{get_or-set_same, get_or-set_other, length-append, length-map, length-set, length_push, map-append, append_assoc, same_lists}
+use Rattle.std.proofs.lemmas.List.{get_or-set_same, get_or-set_other, length-append, length-map, length-set, length_push, map-append, append_assoc}
 use Rattle.std.proofs.lemmas.List.Sorted.{IsPermutation-refl, IsPermutation-cons, IsPermutation-trans, IsPermutation-sym, length_permutation}
-use Rattle.std.proofs.lemmas.Bool.{cases_Bool, cases_eq, cond-true, cond-false, and_from, and_left, and_right, and_parts, lt-ltb, le-ltb, ltb-true, eqb-false, not-true, both_ways, cases_lt, not_from_false, ne_eqb}
+use Rattle.std.proofs.lemmas.Bool.{cases_Bool, cases_eq, cond-true, cond-false, and_from, and_left, and_right, and_parts, lt-ltb, le-ltb, eqb-false, not-true, both_ways, cases_lt, not_from_false, ne_eqb}
 use Rattle.line.specs.declared.Note.{Note}
-use Rattle.sheet.specs.Graph.{Graph, InRow, parcels, entries, row_start, row_end}
+use Rattle.sheet.specs.Graph.{Graph, InRow, parcels, row_start, row_end}
 use Rattle.protocol.specs.Marks.{open', places_from, open_others, drop, strike, let_go}
 use Rattle.protocol.proofs.Marks.{same_open, gone_facts, facts_gone}
 use Rattle.round.specs.Parts.{DroppedOne, LetGo}

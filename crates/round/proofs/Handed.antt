@@ -1,5 +1,5 @@
 -- The note that a line hands a store is for that store. Assumes nothing.
-use Rattle.std.proofs.Common.{◌≡◌, ℕ, List, Some, None, Option, sym, subst}
+use Rattle.std.proofs.Common.{◌≡◌, ℕ, List, Some, Option, subst}
 use Rattle.line.specs.declared.Note.{Note}
 use Rattle.line.specs.Law.{Lawful, Choice}
 

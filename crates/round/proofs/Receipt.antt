@@ -1,16 +1,15 @@
 -- A note that was taken and received, by what the code did. Assumes nothing.
-use Rattle.std.proofs.Common.{◌≡◌, ℕ, ◌+◌, ◌-◌, ◌<◌, ◌≤◌, Bool, true, false, cond, not, ◌&&◌, eqb, List, [], ◌∷◌, ◌++◌, map, length, get_or, set, filter, sym, refl, ap, ◌∙◌, subst, ⊎_elim, arith}
-use lib.Bits.{bit_or}
+use Rattle.std.proofs.Common.{◌≡◌, ℕ, ◌+◌, ◌<◌, ◌≤◌, Bool, true, false, cond, not, ◌&&◌, eqb, List, [], ◌∷◌, length, get_or, set, filter, sym, refl, ap, ◌∙◌, subst, ⊎_elim, arith}
 use Rattle.std.specs.List.Sorted.{IsPermutation}
 use Rattle.std.proofs.lemmas.List.{get_or-set_same, get_or-set_other, length-set, length-map}
 use Rattle.std.proofs.lemmas.List.Sorted.{IsPermutation-refl}
 use Rattle.std.proofs.lemmas.Bool.{cases_eq}
 use Rattle.line.specs.declared.Note.{Note}
 use Rattle.records.specs.declared.Record.{Record}
-use Rattle.sheet.specs.Graph.{Graph, InRow, parcels, entries, row_start}
+use Rattle.sheet.specs.Graph.{Graph, InRow, entries, row_start}
 use Rattle.sheet.specs.Check.{Sound}
 use Rattle.pairing.proofs.Entries.{place_below}
-use Rattle.protocol.specs.Marks.{open', bidden, drop, open_others, places, strike, note_bid}
+use Rattle.protocol.specs.Marks.{open', drop, open_others, places, strike, note_bid}
 use Rattle.protocol.specs.Steps.{LetsGo, Chooses, Receives, hears, agrees, loses, turns, heard, dropped, awaited, entry_of, with_choice}
 use Rattle.protocol.proofs.Marks.{heard_open, same_open}
 use Rattle.protocol.proofs.Tops.{can_let_go}

@@ -1,5 +1,5 @@
 -- How large the numbers of a turn get. Assumes nothing.
-use Rattle.std.proofs.Common.{◌≡◌, ℕ, ◌-◌, ◌<◌, ◌≤◌, not, ◌&&◌, eqb, List, length, get_or, arith}
+use Rattle.std.proofs.Common.{ℕ, ◌-◌, ◌<◌, ◌≤◌, not, ◌&&◌, eqb, List, length, get_or, arith}
 use Rattle.std.proofs.lemmas.List.Sums.{length-filter, count_by-le-length}
 use Rattle.sheet.specs.Graph.{Graph, InRow, parcels, other, row_start, row_end}
 use Rattle.sheet.specs.Check.{Sound}

@@ -1,5 +1,5 @@
 -- Opening and closing a round: what each answers. Assumes nothing.
-use Rattle.std.specs.Prelude.{◌≡◌, ℕ, ◌<◌, ◌≤◌, Bool, true, false, ◌⊎◌, List, [], length, Some, None, Option, ◌≢◌}
+use Rattle.std.specs.Prelude.{◌≡◌, ℕ, ◌<◌, ◌≤◌, true, false, ◌⊎◌, List, [], length, Some, None, Option, ◌≢◌}
 use Rattle.line.specs.declared.Note.{Note}
 use Rattle.records.specs.declared.Record.{Record}
 use Rattle.records.specs.declared.Totals.{Totals}

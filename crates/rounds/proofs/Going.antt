@@ -1,5 +1,5 @@
 -- Turns one after the other, as a run makes them. Assumes nothing.
-use Rattle.std.proofs.Common.{◌≡◌, ℕ, zero, suc, ◌+◌, ◌-◌, ◌<◌, ◌≤◌, min, Bool, true, false, List, length, set, is_some, Some, None, Ok, Err, sym, refl, ap, ◌∙◌, subst, arith}
+use Rattle.std.proofs.Common.{◌≡◌, ℕ, suc, ◌+◌, ◌-◌, ◌<◌, ◌≤◌, Bool, true, List, length, is_some, Some, Ok, Err, sym, refl, ap, ◌∙◌, subst, arith}
 use Rattle.std.proofs.lemmas.Bool.{true≢false}
 use Rattle.rounds.specs.Next.{NextTurn, Turned}
 use Rattle.rounds.specs.declared.Turn.{Turn}
@@ -7,14 +7,14 @@ use Rattle.rounds.specs.declared.Turn.TheVariants.{StartOf, FetchFor}
 use Rattle.std.proofs.lemmas.List.{length-set}
 use Rattle.line.specs.declared.Note.{Note}
 use Rattle.records.specs.declared.Record.{Record}
-use Rattle.sheet.specs.Graph.{Graph, parcels, entries}
+use Rattle.sheet.specs.Graph.{Graph}
 use Rattle.protocol.specs.World.{World, fits}
 use Rattle.protocol.specs.Steps.{Chooses, alone, waits, pairs, Receives, hears, agrees, loses, turns}
-use Rattle.protocol.specs.Turns.{Changes, Started, StartRefused, Fetched, FetchRefused, counted}
-use Rattle.protocol.specs.Runs.{LowestIdle, LowestStore, Quiet, Ran, other_sizes, still, spent, refused_start, refused_fetch, then_start, then_fetch}
+use Rattle.protocol.specs.Turns.{Changes, Started, Fetched}
+use Rattle.protocol.specs.Runs.{LowestIdle, LowestStore, Quiet, Ran, still, spent, refused_start, refused_fetch, then_start, then_fetch}
 use Rattle.protocol.specs.declared.Ending.{Ending}
 use Rattle.protocol.specs.declared.Ending.TheVariants.{Still, Spent, Refused}
-use Rattle.protocol.proofs.Holds.{FitsFacts, fits_facts, facts_fit}
+use Rattle.protocol.proofs.Holds.{fits_facts, facts_fit}
 
 module _ {K : Type 0} (atleast : K → K → Bool) (t : Graph K) where
   chooses_long : {u : ℕ} {m : List ℕ} {r : Record} {m' : List ℕ} {out : List Note} → Chooses atleast t u m r m' out → length m' ≡ length m

@@ -1,5 +1,5 @@
 -- A round that was opened and run until it ended can be closed, by the law. Assumes nothing.
-use Rattle.std.proofs.Common.{◌≡◌, ℕ, zero, suc, ◌+◌, ◌<◌, ◌≤◌, min, Bool, true, false, ◌&&◌, leb, ◌⊎◌, List, [], ◌∷◌, is_some, Some, None, sym, refl, ap, ◌∙◌, subst, inl, inr, ⊎_elim, arith}
+use Rattle.std.proofs.Common.{◌≡◌, ℕ, suc, ◌+◌, ◌≤◌, min, Bool, true, ◌&&◌, leb, ◌⊎◌, List, [], ◌∷◌, is_some, sym, refl, ap, ◌∙◌, inl, inr, ⊎_elim, arith}
 use Rattle.std.specs.List.{range_with_len}
 use Rattle.std.proofs.lemmas.List.FromFn.{length-range_with_len}
 use Rattle.std.proofs.lemmas.List.Sums.{count_by-le-length}
@@ -9,14 +9,14 @@ use Rattle.records.specs.declared.Record.{Record}
 use Rattle.rounds.specs.Settling.{Ready}
 use Rattle.records.specs.Records.{state}
 use Rattle.ranking.specs.Law.{Lawful}
-use Rattle.sheet.specs.Graph.{Graph, parcels, entries}
+use Rattle.sheet.specs.Graph.{Graph, parcels}
 use Rattle.sheet.specs.Check.{Sound}
 use Rattle.sheet.proofs.Facts.{sized_facts}
 use Rattle.protocol.specs.World.{World, fits}
-use Rattle.protocol.specs.Turns.{Changes, StartAccepted, StartRefused, FetchAccepted, FetchRefused, Started, Fetched, counted}
+use Rattle.protocol.specs.Turns.{StartAccepted, StartRefused, FetchAccepted, FetchRefused}
 use Rattle.protocol.specs.Runs.{LowestIdle, LowestStore, Quiet, Ran, other_sizes, still, spent, refused_start, refused_fetch, then_start, then_fetch}
-use Rattle.protocol.specs.History.{Opened, Call, run, After, opened, then}
-use Rattle.protocol.specs.Law.{Law, Settled, SomeTurn, started}
+use Rattle.protocol.specs.History.{Opened, run, After, opened, then}
+use Rattle.protocol.specs.Law.{Law, Settled}
 use Rattle.protocol.specs.declared.Ending.{Ending}
 use Rattle.protocol.specs.declared.Ending.TheVariants.{Still, Spent, Refused}
 use Rattle.protocol.proofs.Holds.{facts_fit}

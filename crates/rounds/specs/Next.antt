@@ -1,5 +1,5 @@
 -- Which turn a run makes next. Assumes nothing.
-use Rattle.std.specs.Prelude.{◌≡◌, ℕ, ◌<◌, Bool, true, Some, None, Ok, Err, Option, Result}
+use Rattle.std.specs.Prelude.{ℕ, Bool, Some, None, Option, Result}
 use Rattle.sheet.specs.Graph.{Graph, parcels}
 use Rattle.protocol.specs.World.{World}
 use Rattle.protocol.specs.Turns.{Start, Fetch}

@@ -1,7 +1,7 @@
 -- What the tests of a sheet tell, as facts about numbers. Assumes nothing.
 use Rattle.std.proofs.Common.{◌≡◌, ℕ, ◌+◌, ◌-◌, ◌<◌, ◌≤◌, true, length, get_or, arith}
 use Rattle.std.proofs.lemmas.Bool.Decides.{nat_tests}
-use Rattle.sheet.specs.Graph.{Graph, parcels, entries, row_start, row_end, other, mirror, sized, fitted, bare_right, parcel_right, rises, mirrored, one_edition}
+use Rattle.sheet.specs.Graph.{Graph, parcels, entries, row_start, row_end, other, sized, fitted, parcel_right, rises}
 
 module _ {K : Type 0} (t : Graph K) where
   pub record SizedFacts : Type 0 where

@@ -1,5 +1,5 @@
 -- Rows follow each other, so that a place stands in one row only. Assumes nothing.
-use Rattle.std.proofs.Common.{◌≡◌, ℕ, zero, suc, ◌+◌, ◌-◌, ◌<◌, ◌≤◌, true, sym, subst, inl, inr, ⊎_elim, add-one, arith}
+use Rattle.std.proofs.Common.{◌≡◌, ℕ, zero, suc, ◌+◌, ◌-◌, ◌<◌, ◌≤◌, true, sym, subst, ⊎_elim, arith}
 use Rattle.std.proofs.lemmas.Bool.{cases_lt, cases_order}
 use Rattle.sheet.specs.Graph.{Graph, parcels, row_start, row_end, parcel_right, InRow}
 use Rattle.sheet.proofs.Facts.{parcel_facts}

@@ -1,8 +1,8 @@
 -- The check passes where nothing is wrong, and only there. Assumes nothing.
-use Rattle.std.proofs.Common.{◌≡◌, ℕ, ◌<◌, Bool, true, false, [], ◌∷◌, sym, refl, ◌∙◌, ⊎_elim, arith}
+use Rattle.std.proofs.Common.{◌≡◌, ℕ, Bool, true, false, [], ◌∷◌, refl, ◌∙◌, ⊎_elim, arith}
 use Rattle.std.proofs.lemmas.Bool.{both_ways}
 use Rattle.sheet.specs.Graph.{Graph, parcels, InRow, sized, fitted, rises, mirrored, sides_alike, one_edition}
-use Rattle.sheet.specs.Check.{Sound, Passed, Refused, size, table, parcel, entry, ParcelsRight, first_failed, entry_fault}
+use Rattle.sheet.specs.Check.{Passed, Refused, size, table, parcel, entry, ParcelsRight, first_failed, entry_fault}
 
 -- a list of tests has no fault exactly where each holds
 pub none_failed : (a b c d : Bool) → first_failed ((a, 5) ∷ (b, 6) ∷ (c, 7) ∷ (d, 8) ∷ []) ≡ 0 → (a ≡ true) × (b ≡ true) × (c ≡ true) × (d ≡ true)

@@ -1,5 +1,5 @@
 -- Lists that are parted at the first such byte. Assumes nothing.
-use Rattle.std.proofs.Common.{◌≡◌, ℕ, ◌+◌, ◌<◌, List, [], ◌∷◌, ◌++◌, length, get_or, take, drop, sym, refl, ap, ◌∙◌, arith, take-append-drop}
+use Rattle.std.proofs.Common.{◌≡◌, ℕ, ◌+◌, ◌<◌, List, [], ◌∷◌, ◌++◌, length, get_or, take, drop, sym, refl, ap, ◌∙◌, take-append-drop}
 use Rattle.std.proofs.lemmas.List.{drop_more}
 use Rattle.text.specs.Parts.{Free}
 

@@ -1,6 +1,5 @@
 -- A text writes its values in one way only. Assumes nothing.
 use Rattle.std.proofs.Common.{◌≡◌, ℕ, ◌≤◌, List, [], ◌∷◌, ◌++◌, length, sym, refl, ap, ◌∙◌, subst, arith}
-use Rattle.std.specs.List.{AllByRecursion as All}
 use Rattle.std.proofs.ByRecursion.{All-weaker, All-append}
 use Rattle.text.specs.Numbers.{Digit, value, Numeral}
 use Rattle.text.specs.Parts.{Free}

@@ -1,8 +1,8 @@
 -- What a line's fields have written so far, and one field more. Assumes nothing.
-use Rattle.std.proofs.Common.{◌≡◌, ℕ, ◌<◌, List, [], ◌∷◌, ◌++◌, length, Some, None, Option, sym, refl, ap, ◌∙◌, subst, inl, inr, arith, length-append, MatchOption}
+use Rattle.std.proofs.Common.{◌≡◌, ℕ, ◌<◌, List, [], ◌∷◌, ◌++◌, length, Some, None, Option, sym, ap, ◌∙◌, subst, inl, inr, arith, length-append, MatchOption}
 use Rattle.text.specs.declared.Part.{Part}
 use Rattle.text.specs.Numbers.{Numeral}
-use Rattle.text.specs.Parts.{Free, Parted, NextField}
+use Rattle.text.specs.Parts.{Free, NextField}
 use Rattle.text.specs.Rows.{Values, one, more}
 use Rattle.text.proofs.Cuts.{free_lacks, one_cut}
 use Rattle.text.proofs.OneWay.{no_comma, Fronts, fronts_push, fronts_last, fronts_strip, values_one_way}

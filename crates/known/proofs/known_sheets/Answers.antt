@@ -1,12 +1,12 @@
-use Rattle.std.proofs.Common.{◌≡◌, ℕ, ◌<◌, ◌≤◌, Bool, true, false, List, [], ◌∷◌, length, sym, refl, ap, ◌∙◌, subst, inl, inr, ⊎_elim, arith, lit<, lit≤}
+use Rattle.std.proofs.Common.{◌≡◌, ℕ, true, false, List, [], ◌∷◌, length, sym, refl, ap, ◌∙◌, inl, inr, ⊎_elim, arith, lit<, lit≤}
 use Rattle.std.proofs.lemmas.Bool.{both_ways}
 use Rattle.std.proofs.lemmas.Bool.Decides.{nat_tests}
 use Rattle.ranking.specs.Kinds.{cents_atleast, staged_atleast}
 use Rattle.ranking.specs.declared.Cents.{Cents}
 use Rattle.matching.specs.Pairs.{Pair, holds, touch, ◌∈◌}
 use Rattle.matching.specs.Half.{Pairing}
-use Rattle.sheet.specs.Graph.{Graph, parcels, entries, sized, no_parcels}
-use Rattle.sheet.specs.Check.{Refused, size}
+use Rattle.sheet.specs.Graph.{Graph, sized, no_parcels}
+use Rattle.sheet.specs.Check.{size}
 use Rattle.pairing.specs.Pairs.{joint, sheet_pairs}
 use Rattle.records.specs.declared.Record.{Record}
 use Rattle.protocol.specs.World.{World}
@@ -14,7 +14,7 @@ use Rattle.protocol.specs.History.{Opened}
 use Rattle.protocol.proofs.Holds.{facts_fit}
 use Rattle.round.specs.Closing.{OpenRefused, line_unfit, wrong_length, Closed}
 use Rattle.known.specs.Sheets.{two, path, triangle, ring, finer, two_keys, one_sided, two_editions}
-use Rattle.known.specs.Known.{KnownSheets, Middle, SixNotes, OnePast, LoneIn, outer, nothing}
+use Rattle.known.specs.Known.{SixNotes, OnePast, LoneIn, outer, nothing}
 use Rattle.known.proofs.Computed.{passes_by, refused_by}
 use Rattle.known.proofs.Path.{comes_to, happens}
 use Rattle.known.proofs.known_sheets.Goals as goal

@@ -1,4 +1,4 @@
-use Rattle.std.proofs.Common.{◌≤◌, length, subst}
+use Rattle.std.proofs.Common.{◌≤◌, subst}
 use Rattle.sheet.specs.Graph.{parcels}
 use Rattle.sheet.specs.View.{graph}
 use Rattle.sheet.specs.Held.{held}

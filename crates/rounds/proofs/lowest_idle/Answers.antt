@@ -1,4 +1,4 @@
-use Rattle.std.proofs.Common.{◌≡◌, ℕ, ◌<◌, ap, ◌∙◌, arith, below_more}
+use Rattle.std.proofs.Common.{◌≡◌, arith, below_more}
 use Rattle.records.specs.Records.{state}
 use Rattle.rounds.proofs.lowest_idle.Goals as goal
 

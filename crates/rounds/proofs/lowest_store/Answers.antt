@@ -1,8 +1,7 @@
-use Rattle.std.proofs.Common.{◌≡◌, ℕ, ◌<◌, ◌≤◌, true, false, is_some, Some, None, Option, sym, refl, ap, ◌∙◌, subst, arith, below_more}
+use Rattle.std.proofs.Common.{◌≡◌, ◌<◌, false, is_some, Some, None, Option, sym, refl, ap, ◌∙◌, subst, arith, below_more}
 use Rattle.std.proofs.lemmas.Bool.{true≢false}
 use Rattle.line.specs.declared.Note.{Note}
 use Rattle.sheet.specs.View.{graph}
-use Rattle.sheet.specs.Held.{held}
 use Rattle.rounds.proofs.lowest_store.Goals as goal
 
 none_if : (o : Option Note) → is_some o ≡ false → o ≡ None

@@ -1,4 +1,4 @@
-use Rattle.std.proofs.Common.{◌≡◌, sym, refl, arith}
+use Rattle.std.proofs.Common.{sym, arith}
 use Rattle.sheet.specs.Held.{held}
 use Rattle.protocol.specs.Runs.{other_sizes}
 use Rattle.protocol.proofs.Holds.{fits_facts}

@@ -1,7 +1,6 @@
-use Rattle.std.proofs.Common.{◌≡◌, sym, refl, inl, inr}
+use Rattle.std.proofs.Common.{refl, inl, inr}
 use Rattle.sheet.specs.Held.{held}
 use Rattle.sheet.proofs.Held.{held_sound}
-use Rattle.round.specs.Closing.{line_unfit, wrong_length}
 use Rattle.rounds.proofs.Settling.{closes, one_run, ready_opens}
 use Rattle.rounds.proofs.settle.Goals as goal
 

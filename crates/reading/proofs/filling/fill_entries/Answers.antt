@@ -1,9 +1,9 @@
-use Rattle.std.proofs.Common.{◌≡◌, ℕ, ◌+◌, ◌<◌, ◌≤◌, [], ◌∷◌, ◌++◌, map, length, sym, refl, ap, ◌∙◌, subst, arith}
+use Rattle.std.proofs.Common.{◌≡◌, ◌+◌, ◌<◌, ◌≤◌, [], ◌∷◌, ◌++◌, map, length, sym, refl, ap, ◌∙◌, subst, arith}
 use Rattle.std.proofs.lemmas.List.{length_push, map_push}
 use Rattle.text.specs.Rows.{none}
 use Rattle.reading.specs.Listing.{NeverFalls, key_of}
 use Rattle.reading.proofs.Lists.{laid_more}
-use Rattle.reading.proofs.Marks.{Marked, Written, marks, marks_push, marks_all}
+use Rattle.reading.proofs.Marks.{Written, marks, marks_push, marks_all}
 use Rattle.reading.proofs.Next.{next_entry}
 use Rattle.reading.proofs.Passed.{row_of, last_row, falls_last, entries_push}
 use Rattle.reading.proofs.filling.fill_entries.Goals as goal

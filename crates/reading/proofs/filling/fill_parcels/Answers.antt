@@ -1,9 +1,7 @@
-use Rattle.std.proofs.Common.{◌≡◌, ℕ, ◌+◌, ◌<◌, [], ◌∷◌, ◌++◌, map, length, set, sym, refl, ap, ◌∙◌, subst, append-nil, arith}
+use Rattle.std.proofs.Common.{◌+◌, [], ◌∷◌, ◌++◌, sym, refl, ap, ◌∙◌, subst, append-nil, arith}
 use Rattle.std.proofs.lemmas.List.{length_push}
 use Rattle.text.specs.Parts.{left}
 use Rattle.text.specs.Rows.{Begins, none}
-use Rattle.reading.specs.declared.rows.Parcel.{Parcel}
-use Rattle.reading.specs.Outcome.{laid}
 use Rattle.reading.proofs.Lists.{laid_more}
 use Rattle.reading.proofs.Next.{next_parcel}
 use Rattle.reading.proofs.Passed.{parcels_push}

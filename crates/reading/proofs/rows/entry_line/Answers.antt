@@ -1,4 +1,4 @@
-use Rattle.std.proofs.Common.{◌≡◌, get_or, sym, ap, ◌∙◌, arith}
+use Rattle.std.proofs.Common.{◌≡◌, get_or, ap, arith}
 use Rattle.text.proofs.OneWay.{one_row}
 use Rattle.reading.proofs.rows.entry_line.Goals as goal
 

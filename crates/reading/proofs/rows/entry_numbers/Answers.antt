@@ -1,4 +1,4 @@
-use Rattle.std.proofs.Common.{◌≡◌, ℕ, List, [], ◌∷◌, length, get_or, sym, refl, ap, ◌∙◌, subst, arith}
+use Rattle.std.proofs.Common.{[], ◌∷◌, get_or, refl, subst, arith}
 use Rattle.text.specs.Parts.{left}
 use Rattle.text.specs.Rows.{Begins}
 use Rattle.reading.proofs.Lists.{three, four}

@@ -1,5 +1,5 @@
-use Rattle.std.proofs.Common.{◌≡◌, ℕ, List, [], ◌∷◌, ◌++◌, length, Some, None, Option, refl, subst}
-use Rattle.text.specs.Parts.{Free, NextLine, left}
+use Rattle.std.proofs.Common.{◌≡◌, ℕ, List, [], ◌∷◌, ◌++◌, length, Some, None, Option, refl}
+use Rattle.text.specs.Parts.{Free}
 use Rattle.text.specs.Rows.{Values, OnlyValues, Begins, none, line}
 use Rattle.text.proofs.OneWay.{no_line, line_here}
 use Rattle.reading.proofs.rows.next_numbers.Goals as goal

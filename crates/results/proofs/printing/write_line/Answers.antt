@@ -1,4 +1,4 @@
-use Rattle.std.proofs.Common.{◌≡◌, ◌+◌, ◌≤◌, ◌++◌, length, get_or, drop, decimal, sym, ap, ◌∙◌, subst, arith}
+use Rattle.std.proofs.Common.{◌≡◌, ◌+◌, ◌++◌, length, get_or, drop, sym, ap, ◌∙◌, arith}
 use Rattle.results.specs.Text.{field, mark, line, put_in}
 use Rattle.results.proofs.Lines.{length_field, mark_more, mark_none, line_more, line_none, length_line_more}
 use Rattle.results.proofs.Put.{put_none, put_put}

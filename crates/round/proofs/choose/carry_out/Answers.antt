@@ -1,4 +1,4 @@
-use Rattle.std.proofs.Common.{◌≡◌, sym, refl, ap, ◌∙◌, subst, arith}
+use Rattle.std.proofs.Common.{refl, ap, ◌∙◌, arith}
 use Rattle.sheet.specs.Held.{held}
 use Rattle.line.proofs.Lines.{one_more}
 use Rattle.round.specs.Parts.{sends}

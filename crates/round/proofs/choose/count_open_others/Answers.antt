@@ -1,8 +1,8 @@
-use Rattle.std.proofs.Common.{◌≡◌, ℕ, ◌+◌, ◌-◌, ◌^◌, ◌<◌, ◌≤◌, Bool, not, ◌&&◌, eqb, [], ◌∷◌, length, filter, sym, ap, ◌∙◌, arith}
+use Rattle.std.proofs.Common.{◌≡◌, ℕ, ◌+◌, ◌-◌, ◌≤◌, Bool, not, ◌&&◌, eqb, length, filter, sym, ap, ◌∙◌, arith}
 use Rattle.std.proofs.lemmas.List.{length_push}
 use Rattle.std.proofs.lemmas.List.Sums.{length-filter, count_by-le-length}
 use Rattle.sheet.specs.Held.{held}
-use Rattle.sheet.specs.Graph.{row_start, row_end}
+use Rattle.sheet.specs.Graph.{row_end}
 use Rattle.sheet.proofs.Facts.{sized_facts, parcel_facts}
 use Rattle.sheet.proofs.Held.{held_sound}
 use Rattle.protocol.specs.Marks.{open', places_from}

@@ -1,6 +1,6 @@
 use Rattle.std.proofs.Common.{◌≡◌, ◌<◌, length, sym, refl, ◌∙◌, subst, arith}
 use Rattle.sheet.specs.Held.{held}
-use Rattle.sheet.specs.Graph.{InRow, row_start, row_end}
+use Rattle.sheet.specs.Graph.{InRow, row_end}
 use Rattle.sheet.proofs.Facts.{parcel_facts}
 use Rattle.sheet.proofs.Held.{held_sound}
 use Rattle.pairing.proofs.Entries.{place_below}

@@ -1,11 +1,10 @@
-use Rattle.std.proofs.Common.{◌≡◌, ◌≤◌, ◌∷◌, Ok, sym, refl, ap, ◌∙◌, subst}
+use Rattle.std.proofs.Common.{◌≡◌, ◌≤◌, ◌∷◌, Ok, sym, ◌∙◌, subst}
 use Rattle.std.specs.List.Sorted.{IsPermutation}
 use Rattle.line.specs.declared.Note.{Note}
 use Rattle.line.specs.Calls.{Put}
 use Rattle.line.proofs.Lines.{accepts}
 use Rattle.sheet.specs.Held.{held}
 use Rattle.sheet.proofs.Held.{held_sound}
-use Rattle.protocol.specs.Marks.{note_along}
 use Rattle.round.proofs.Sizes.{store_low}
 use Rattle.round.proofs.choose.send.Goals as goal
 

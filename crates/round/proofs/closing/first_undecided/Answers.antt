@@ -1,4 +1,4 @@
-use Rattle.std.proofs.Common.{◌≡◌, ℕ, ◌<◌, ◌⊎◌, arith, below_more}
+use Rattle.std.proofs.Common.{◌≡◌, ◌⊎◌, arith, below_more}
 use Rattle.records.specs.Records.{state}
 use Rattle.sheet.specs.Held.{held}
 use Rattle.round.proofs.Ended.{decided_state, right_state}

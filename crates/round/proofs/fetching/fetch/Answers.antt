@@ -1,6 +1,4 @@
-use Rattle.std.proofs.Common.{◌≡◌, ◌+◌, ◌<◌, ◌≤◌, min, true, false, length, Some, None, unwrap_or, sym, refl, ap, ◌∙◌, subst, arith}
-use Rattle.line.specs.declared.Note.{Note}
-use Rattle.records.specs.Records.{astray, strays_at}
+use Rattle.std.proofs.Common.{◌≡◌, ◌+◌, ◌<◌, ◌≤◌, min, true, false, Some, unwrap_or, sym, refl, ap, ◌∙◌, subst, arith}
 use Rattle.sheet.specs.View.{graph}
 use Rattle.sheet.specs.Held.{held}
 use Rattle.sheet.proofs.Held.{held_sound}

@@ -1,4 +1,4 @@
-use Rattle.std.proofs.Common.{◌≡◌, sym, subst, ⊎_elim}
+use Rattle.std.proofs.Common.{sym, subst, ⊎_elim}
 use Rattle.sheet.specs.Held.{held}
 use Rattle.sheet.specs.Graph.{InRow}
 use Rattle.sheet.proofs.Held.{held_sound}

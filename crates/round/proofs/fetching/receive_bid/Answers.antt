@@ -1,4 +1,4 @@
-use Rattle.std.proofs.Common.{◌≡◌, length, sym, refl, ap, ◌∙◌, subst, arith}
+use Rattle.std.proofs.Common.{length, sym, refl, ap, ◌∙◌, arith}
 use Rattle.sheet.specs.Held.{held}
 use Rattle.sheet.proofs.Held.{held_sound}
 use Rattle.line.proofs.Lines.{one_more}

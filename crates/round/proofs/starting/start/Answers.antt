@@ -1,7 +1,7 @@
 use Rattle.std.proofs.Common.{◌≡◌, ◌+◌, ◌<◌, ◌≤◌, min, length, sym, refl, ap, ◌∙◌, subst, arith}
 use Rattle.sheet.specs.View.{graph}
 use Rattle.sheet.specs.Held.{held}
-use Rattle.sheet.specs.Graph.{parcels, entries}
+use Rattle.sheet.specs.Graph.{parcels}
 use Rattle.sheet.proofs.Held.{held_sound}
 use Rattle.protocol.specs.Turns.{no_parcel, start_sizes, begun, start_strays, start_room}
 use Rattle.protocol.proofs.Holds.{fits_facts}

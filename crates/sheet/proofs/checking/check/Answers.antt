@@ -1,5 +1,5 @@
-use Rattle.std.proofs.Common.{ℕ, sym, refl}
-use Rattle.sheet.specs.Check.{Passed, Refused, size, table, parcel, entry}
+use Rattle.std.proofs.Common.{sym, refl}
+use Rattle.sheet.specs.Check.{size, table, parcel, entry}
 use Rattle.sheet.specs.View.{graph}
 use Rattle.sheet.proofs.Verdict.{passes, refused_not_passed}
 use Rattle.sheet.proofs.checking.check.Goals as goal

@@ -1,4 +1,4 @@
-use Rattle.std.proofs.Common.{sym, ◌∙◌, arith}
+use Rattle.std.proofs.Common.{sym, arith}
 use Rattle.sheet.specs.Graph.{other}
 use Rattle.sheet.specs.View.{graph}
 use Rattle.sheet.proofs.Facts.{fitted_facts, parcel_facts, entry_facts}

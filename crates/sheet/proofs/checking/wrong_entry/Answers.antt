@@ -1,4 +1,4 @@
-use Rattle.std.proofs.Common.{◌≡◌, ℕ, ◌<◌, sym, ◌∙◌, subst, arith}
+use Rattle.std.proofs.Common.{◌≡◌, ◌<◌, sym, ◌∙◌, subst, arith}
 use Rattle.sheet.specs.Graph.{InRow, parcels, row_start}
 use Rattle.sheet.specs.Check.{entry_fault, WrongEntry}
 use Rattle.sheet.specs.View.{graph}

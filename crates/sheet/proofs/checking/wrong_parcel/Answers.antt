@@ -1,4 +1,4 @@
-use Rattle.std.proofs.Common.{◌≡◌, ℕ, true, sym, below_more}
+use Rattle.std.proofs.Common.{◌≡◌, true, sym, below_more}
 use Rattle.sheet.specs.Graph.{parcel_right}
 use Rattle.sheet.specs.View.{graph}
 use Rattle.sheet.proofs.checking.wrong_parcel.Goals as goal

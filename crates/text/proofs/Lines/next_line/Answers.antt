@@ -1,6 +1,6 @@
-use Rattle.std.proofs.Common.{◌≡◌, ◌+◌, ◌-◌, ◌<◌, ◌≤◌, ◌∷◌, ◌++◌, length, take, drop, sym, refl, ap, ◌∙◌, subst, arith}
+use Rattle.std.proofs.Common.{◌≡◌, ◌+◌, ◌-◌, ◌∷◌, ◌++◌, length, take, drop, sym, refl, ap, ◌∙◌, subst, arith}
 use Rattle.std.proofs.lemmas.List.{take_rest, drop-drop, length-take-le}
-use Rattle.text.specs.Parts.{Free, NextLine}
+use Rattle.text.specs.Parts.{Free}
 use Rattle.text.proofs.Cuts.{parted_at}
 use Rattle.text.proofs.Lines.next_line.Goals as goal
 

@@ -1,4 +1,4 @@
-use Rattle.std.proofs.Common.{◌≡◌, ◌≤◌, take}
+use Rattle.std.proofs.Common.{◌≡◌, take}
 use Rattle.text.specs.Numbers.{value}
 use Rattle.text.proofs.decimal.value_of.Given as goal
 

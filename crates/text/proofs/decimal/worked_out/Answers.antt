@@ -1,5 +1,5 @@
-use Rattle.std.proofs.Common.{ℕ, ◌+◌, ◌<◌, ◌≤◌, [], ◌∷◌, codes, refl, arith, rules}
-use Rattle.text.specs.Numbers.{Digit, Numeral}
+use Rattle.std.proofs.Common.{ℕ, ◌+◌, ◌<◌, [], ◌∷◌, codes, refl, arith, rules}
+use Rattle.text.specs.Numbers.{Numeral}
 use Rattle.text.specs.Rows.{one, more, none, line}
 use Rattle.text.proofs.decimal.worked_out.Goals as goal
 

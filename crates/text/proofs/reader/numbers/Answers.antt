@@ -1,9 +1,9 @@
-use Rattle.std.proofs.Common.{◌≡◌, ℕ, ◌+◌, ◌<◌, ◌≤◌, List, [], length, take, set, sym, refl, ap, ◌∙◌, subst, arith, length-set, rules}
+use Rattle.std.proofs.Common.{◌≡◌, ℕ, ◌≤◌, List, [], length, take, sym, refl, ap, ◌∙◌, subst, arith, length-set, rules}
 use lib.ListN.{length-replicate}
 use Rattle.std.proofs.lemmas.List.{length-take-le, take_all, take_more_set}
 use Rattle.text.specs.Numbers.{Numeral}
 use Rattle.text.specs.Rows.{Values}
-use Rattle.text.proofs.OneWay.{Fronts, start, values_one_way}
+use Rattle.text.proofs.OneWay.{start, values_one_way}
 use Rattle.text.proofs.Steps.{Sofar, no_field, one_more, too_few, no_number, too_many}
 use Rattle.text.proofs.reader.numbers.Goals as goal
 

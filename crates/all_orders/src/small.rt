@@ -1,0 +1,112 @@
+//! The sheets of four parcels with keys 0 to 2, and their tables.
+ghost use Rattle.std.specs.Prelude.{◌≡◌, true};
+ghost use Rattle.all_orders.specs.Pairs.{partner, touching, standing_above};
+
+use ranking::Cents;
+use std::alloc::{AllocError, Global};
+
+/// How many parcels each sheet has.
+pub const PARCELS: u32 = 4;
+/// How many sheets there are: each of the six pairs is absent, or has 0, 1 or 2 cents.
+pub const SHEETS: u32 = 4_096;
+/// The most entries of a sheet: two for each of the six pairs.
+pub const MOST_ENTRIES: usize = 12;
+
+static JOINS: [(u32, u32); 6] = [(0, 1), (0, 2), (0, 3), (1, 2), (1, 3), (2, 3)];
+
+/// Two parcels that may be joined, the lower number first, and what their lot would fetch.
+#[derive(Clone, Copy)]
+pub struct Pair {
+    pub low: u32,
+    pub high: u32,
+    pub cents: u32,
+}
+
+impl Pair {
+    /// The parcel that `u` is joined with, if the pair has `u`.
+    pub fn other(self, u: u32) -> Option<u32>
+        ensures { result ≡ partner self u }
+    {
+        if u == self.low {
+            Some(self.high)
+        } else if u == self.high {
+            Some(self.low)
+        } else {
+            None
+        }
+    }
+
+    /// Whether the two have a parcel in common.
+    pub fn touches(self, with: Pair) -> bool
+        ensures { result ≡ touching self «with» }
+    {
+        self.low == with.low
+            || self.low == with.high
+            || self.high == with.low
+            || self.high == with.high
+    }
+
+    /// Whether it stands above another pair: by its key, then by the higher parcel, then by the lower.
+    pub fn stands_above(self, below: Pair) -> bool
+        ensures { result ≡ standing_above self below }
+    {
+        if self.cents != below.cents {
+            return self.cents > below.cents;
+        }
+        if self.high != below.high {
+            return self.high > below.high;
+        }
+        self.low > below.low
+    }
+}
+
+/// The pairs of the sheet of this number: its digits to the base 4 are their cents, or 3 where a pair is absent.
+pub fn pairs_of(heap: Global, number: u32) -> Result<Vec<Pair>, AllocError> {
+    let mut pairs = Vec::new(heap);
+    let mut digits = number;
+    for join in &JOINS {
+        let cents = digits % 4;
+        digits /= 4;
+        if cents < 3 {
+            let (low, high) = *join;
+            pairs.push(Pair { low, high, cents })?;
+        }
+    }
+    Ok(pairs)
+}
+
+/// The rows of a sheet.
+#[derive(Drop)]
+pub struct Rows {
+    pub starts: Vec<u32>,
+    pub others: Vec<u32>,
+    pub keys: Vec<Cents>,
+    pub entries: u32,
+}
+
+// Adds the row of parcel `u`. The pairs stand so that its entries rise.
+fn add_row(rows: &mut Rows, pairs: &[Pair], u: u32) -> Result<(), AllocError> {
+    for pair in pairs {
+        if let Some(v) = pair.other(u) {
+            rows.others.push(v)?;
+            rows.keys.push(Cents(pair.cents))?;
+            rows.entries = rows.entries.saturating_add(1);
+        }
+    }
+    rows.starts.push(rows.entries)?;
+    Ok(())
+}
+
+/// The rows of the sheet with these pairs.
+pub fn rows_of(heap: Global, pairs: &[Pair]) -> Result<Rows, AllocError> {
+    let mut rows = Rows {
+        starts: vec![in heap; 0]?,
+        others: Vec::new(heap),
+        keys: Vec::new(heap),
+        entries: 0,
+    };
+    for u in 0..PARCELS {
+        add_row(&mut rows, pairs, u)?;
+    }
+    Ok(rows)
+}

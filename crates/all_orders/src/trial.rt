@@ -1,0 +1,137 @@
+//! One sheet through every layout of stores, kind of line and order of calls, held against the definition.
+use crate::counts::{Counts, Expected, Settled};
+use crate::definition::{cents_of, greedy, most_cents, records_of};
+use crate::orders::{Order, play};
+use crate::small::{MOST_ENTRIES, PARCELS, Rows, pairs_of, rows_of};
+use line::Line;
+use lines::BLANK;
+use lines::pigeonholes::Pigeonholes;
+use lines::queue::Queue;
+use outright::pair_outright;
+use ranking::Cents;
+use records::{IDLE_RECORD, Record};
+use results::worth;
+use round::open;
+use sheet::{Sheet, Tables, check};
+use std::alloc::{AllocError, Global};
+
+// Which store each parcel lies in.
+struct Layout {
+    stores: [u32; 4],
+    count: u32,
+}
+
+/// How many layouts there are.
+pub const LAYOUT_COUNT: usize = 4;
+/// How many orders of calls there are.
+pub const ORDER_COUNT: usize = 4;
+
+// All in one store, each in its own, two and two, and by turns in the first and the last of three.
+static LAYOUTS: [Layout; LAYOUT_COUNT] = [
+    Layout {
+        stores: [0, 0, 0, 0],
+        count: 1,
+    },
+    Layout {
+        stores: [0, 1, 2, 3],
+        count: 4,
+    },
+    Layout {
+        stores: [0, 0, 1, 1],
+        count: 2,
+    },
+    Layout {
+        stores: [2, 0, 2, 0],
+        count: 3,
+    },
+];
+
+static ORDERS: [Order; ORDER_COUNT] = [
+    Order::InOneRun,
+    Order::StartsFirst,
+    Order::FetchesFirst,
+    Order::WithRefusals,
+];
+
+static EDITIONS: [u16; 4] = [1, 1, 1, 1];
+
+// A round over this line, in this order of calls. No answer where a call is not answered as it has to be.
+fn try_round<L: Line>(sheet: &Sheet<Cents>, order: Order, line: &mut L) -> Option<Settled> {
+    let mut records = [IDLE_RECORD; 4];
+    let mut bits = [0; MOST_ENTRIES];
+    let marks = &mut bits[..MOST_ENTRIES.min(sheet.tables().others.len())];
+    let round = open(sheet, &mut records, marks, line).ok()?;
+    let course = play(order, round, sheet, &mut records, marks, line)?;
+    let cents = worth(sheet, &records).ok()?;
+    Some(Settled {
+        records,
+        cents,
+        course,
+    })
+}
+
+// Rounds over both kinds of line, in this order of calls.
+fn try_order(counts: &mut Counts, expected: &Expected, sheet: &Sheet<Cents>, order: Order) {
+    let mut slots = [BLANK; MOST_ENTRIES];
+    let mut queue = Queue::new(&mut slots, MOST_ENTRIES as u32);
+    match try_round(sheet, order, &mut queue) {
+        Some(settled) => counts.add_round(expected, &settled),
+        None => counts.add_refused(),
+    }
+    let mut holes = [BLANK; MOST_ENTRIES];
+    let mut pigeonholes = Pigeonholes::new(&mut holes, MOST_ENTRIES as u32);
+    match try_round(sheet, order, &mut pigeonholes) {
+        Some(settled) => counts.add_round(expected, &settled),
+        None => counts.add_refused(),
+    }
+}
+
+// The sheet outright, and in rounds in every order of calls.
+fn try_pairing(counts: &mut Counts, expected: &Expected, sheet: &Sheet<Cents>) {
+    let mut records = [IDLE_RECORD; 4];
+    match pair_outright(sheet, &mut records, &mut [0; 4]) {
+        Ok(()) => counts.add_outright(expected, &records),
+        Err(_) => counts.add_refused(),
+    }
+    for order in ORDERS {
+        try_order(counts, expected, sheet, order);
+    }
+}
+
+// The sheet of these rows in this layout of stores.
+fn try_layout<'a>(counts: &mut Counts, expected: &Expected, rows: &'a Rows, layout: &'a Layout) {
+    let tables = Tables {
+        starts: rows.starts.as_slice(),
+        others: rows.others.as_slice(),
+        keys: rows.keys.as_slice(),
+        stores: &layout.stores,
+        editions: &EDITIONS,
+        store_count: layout.count,
+    };
+    let mut sheet = Sheet::empty();
+    match check(&mut sheet, tables) {
+        Ok(()) => try_pairing(counts, expected, &sheet),
+        Err(_) => counts.add_refused(),
+    }
+}
+
+/// Pairs the sheet of this number in every way, and counts what came of it.
+pub fn try_sheet(heap: Global, counts: &mut Counts, number: u32) -> Result<(), AllocError> {
+    let pairs = pairs_of(heap, number)?;
+    let taken = greedy(heap, pairs.as_slice())?;
+    let rows = rows_of(heap, pairs.as_slice())?;
+    let paired = u32::try_from(taken.len()).unwrap_or(u32::MAX);
+    let expected = Expected {
+        records: records_of(pairs.as_slice(), taken.as_slice()),
+        entries: rows.entries,
+        pairs: paired,
+        lone: PARCELS.saturating_sub(paired.saturating_mul(2)),
+        cents: cents_of(taken.as_slice()),
+        most: most_cents(pairs.as_slice()),
+    };
+    counts.add_sheet(&expected);
+    for layout in &LAYOUTS {
+        try_layout(counts, &expected, &rows, layout);
+    }
+    Ok(())
+}
