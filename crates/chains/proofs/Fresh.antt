@@ -1,6 +1,6 @@
 -- A pool in the making: the places below i are on the free chain, and the others on none. Assumes nothing.
 use Rattle.std.proofs.Common.{◌≡◌, ℕ, zero, suc, ◌+◌, ◌<◌, ◌≤◌, Bool, true, false, cond, eqb, ltb, ◌≢◌, List, [], ◌∷◌, length, get_or, set, replicate, sym, refl, ap, ◌∙◌, subst, ⊎_elim, add-one, arith}
-use Rattle.std.specs.List.{AllByRecursion as All}
+use Rattle.std.specs.List.{AllByRecursion}
 use Rattle.std.proofs.ByRecursion.{All-weaker}
 use Rattle.std.proofs.lemmas.List.{get_or-replicate}
 use Rattle.std.proofs.lemmas.Bool.{cases_eq, cases_lt}
@@ -20,7 +20,7 @@ abbrev pub down : ℕ → List ℕ
 down zero = []
 down (suc i) = i ∷ down i
 
-down_below : (i : ℕ) → All (λ x. x < i) (down i)
+down_below : (i : ℕ) → AllByRecursion (λ x. x < i) (down i)
 down_below zero = tt
 down_below (suc i) = (omega arith, All-weaker (λ x. x < i) (λ x. x < suc i) (λ x h. omega arith) (down i) (down_below i))
 

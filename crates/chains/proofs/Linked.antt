@@ -1,6 +1,6 @@
 -- A chain that ends, and what a write to the table of slots leaves of it. Assumes nothing.
 use Rattle.std.proofs.Common.{◌≡◌, ℕ, zero, suc, ◌<◌, ◌≤◌, Bool, true, false, cond, ◌&&◌, eqb, ltb, ◌≢◌, List, [], ◌∷◌, ◌++◌, map, length, set, sym, refl, ap, ◌∙◌, subst, ⊎_elim, arith}
-use Rattle.std.specs.List.{AllByRecursion as All, list_all}
+use Rattle.std.specs.List.{AllByRecursion, list_all}
 use Rattle.std.proofs.lemmas.List.{get_or-set_same, get_or-set_other, set_past}
 use Rattle.std.proofs.lemmas.Bool.{ltb-true, ltb-false, lt-ltb, le-ltb, cases_lt, cases_eq, eqb-true, and_parts, and_from, cond-true, cond-false}
 use Rattle.line.specs.declared.Note.{Note}
@@ -14,7 +14,7 @@ Linked slots cap p (x ∷ xs) = (x ≡ p) × (p < cap) × Linked slots cap (slot
 
 -- y is not in the list
 abbrev pub FreeOf : ℕ → List ℕ → Type 0
-FreeOf y xs = All (λ x. x ≢ y) xs
+FreeOf y xs = AllByRecursion (λ x. x ≢ y) xs
 
 -- a walk that stops before its bound has come to the end
 pub linked_walk : (slots : List Slot) (cap n p : ℕ) → length (walk slots cap n p) < n → Linked slots cap p (walk slots cap n p)
@@ -67,7 +67,7 @@ once slots cap p x xs l =
     subst (λ y. FreeOf y xs) (sym l.0) free
 
 -- every place of a chain is below the capacity
-pub places_below : (slots : List Slot) (cap p : ℕ) (xs : List ℕ) → Linked slots cap p xs → All (λ x. x < cap) xs
+pub places_below : (slots : List Slot) (cap p : ℕ) (xs : List ℕ) → Linked slots cap p xs → AllByRecursion (λ x. x < cap) xs
 places_below slots cap p [] l = tt
 places_below slots cap p (x ∷ xs) l = (omega arith, places_below slots cap (slot_at slots p).link xs l.2)
 
@@ -112,7 +112,7 @@ pub last_push : (t x : ℕ) (xs : List ℕ) → last_or t (xs ++ x ∷ []) ≡ x
 last_push t x [] = refl
 last_push t x (y ∷ ys) = last_push y x ys
 
-pub all_last : (P : ℕ → Type 0) (x : ℕ) (xs : List ℕ) → All P (x ∷ xs) → P (last_or x xs)
+pub all_last : (P : ℕ → Type 0) (x : ℕ) (xs : List ℕ) → AllByRecursion P (x ∷ xs) → P (last_or x xs)
 all_last P x [] h = h.0
 all_last P x (y ∷ ys) h = all_last P y ys h.1
 

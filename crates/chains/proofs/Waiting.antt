@@ -1,6 +1,6 @@
 -- The notes of all stores as the notes that wait on a line. Assumes nothing.
 use Rattle.std.proofs.Common.{◌≡◌, ℕ, zero, suc, ◌<◌, ◌≤◌, true, ◌≢◌, List, [], ◌∷◌, ◌++◌, map, length, drop, Some, sym, refl, ap, ◌∙◌, subst, ⊎_elim, append_assoc, append-nil, arith}
-use Rattle.std.specs.List.{ContainsAt as Has, AllByRecursion as All, list_all}
+use Rattle.std.specs.List.{ContainsAt, AllByRecursion, list_all}
 use Rattle.std.specs.List.Sorted.{IsPermutation}
 use Rattle.std.proofs.ByRecursion.{All-append, All-weaker, has_shuffled}
 use Rattle.std.proofs.lemmas.List.Sorted.{IsPermutation-refl, IsPermutation-cons, IsPermutation-swap, IsPermutation-trans}
@@ -85,12 +85,12 @@ taken_waits note s old new taken =
 
 -- ---- the law
 
-gathered_all : {X : Type 0} (P : X → Type 0) (f : ℕ → List X) (n : ℕ) → ((s : ℕ) → s < n → All P (f s)) → All P (gathered f n)
+gathered_all : {X : Type 0} (P : X → Type 0) (f : ℕ → List X) (n : ℕ) → ((s : ℕ) → s < n → AllByRecursion P (f s)) → AllByRecursion P (gathered f n)
 unfolding gathered
 gathered_all P f zero h = tt
 gathered_all P f (suc n) h = All-append P (gathered f n) (f n) (gathered_all P f n (λ s l. h s (omega arith))) (h n (omega arith))
 
-held_stores : (slots : List Slot) (s : ℕ) (ps : List ℕ) → list_all (holds slots s) ps ≡ true → All (λ n. n.store ≡ s) (map (note_at slots) ps)
+held_stores : (slots : List Slot) (s : ℕ) (ps : List ℕ) → list_all (holds slots s) ps ≡ true → AllByRecursion (λ n. n.store ≡ s) (map (note_at slots) ps)
 held_stores slots s [] h = tt
 held_stores slots s (p ∷ ps) h =
     let both = and_parts (holds slots s p) (list_all (holds slots s) ps) h in
@@ -98,27 +98,27 @@ held_stores slots s (p ∷ ps) h =
 
 module _ (pool : Pool) (sound : Sound pool) where
   -- a note stands with the store that it names
-  pub at_home : (s : ℕ) → s < 64 → All (λ n. n.store ≡ s) (by_store pool s)
+  pub at_home : (s : ℕ) → s < 64 → AllByRecursion (λ n. n.store ≡ s) (by_store pool s)
   at_home s known =
-      subst (All (λ n. n.store ≡ s)) (store_within pool s known)
+      subst (AllByRecursion (λ n. n.store ≡ s)) (store_within pool s known)
       (held_stores pool.slots.now s (chain pool.slots.now pool.heads pool.capacity s) (sound.chained s (omega arith)).0)
 
-  choice_none : (s : ℕ) → by_store pool s ≡ [] → All (λ n. n.store ≡ s → ⊥) (all_notes pool)
+  choice_none : (s : ℕ) → by_store pool s ≡ [] → AllByRecursion (λ n. n.store ≡ s → ⊥) (all_notes pool)
   choice_none s none =
       gathered_all (λ n. n.store ≡ s → ⊥) (by_store pool) 64
       (λ t known. ⊎_elim
-      (λ e. subst (All (λ n. n.store ≡ s → ⊥)) (sym (ap (by_store pool) e ∙ none)) tt)
+      (λ e. subst (AllByRecursion (λ n. n.store ≡ s → ⊥)) (sym (ap (by_store pool) e ∙ none)) tt)
       (λ ne. All-weaker (λ n. n.store ≡ t) (λ n. n.store ≡ s → ⊥) (λ n here there. ne (sym here ∙ there)) (by_store pool t) (at_home t known))
       (cases_eq t s))
 
-  choice_some : (s : ℕ) (note : Note) (rest : List Note) → by_store pool s ≡ note ∷ rest → Has (all_notes pool) note × (note.store ≡ s)
+  choice_some : (s : ℕ) (note : Note) (rest : List Note) → by_store pool s ≡ note ∷ rest → ContainsAt (all_notes pool) note × (note.store ≡ s)
   choice_some s note rest is =
       let some = ap length is in
       let known = has_store pool s (omega arith) in
       let without = upd (by_store pool) s rest in
       let shuffled = one_more without (by_store pool) s note [] rest (upd_same (by_store pool) s rest) is (λ t ne. sym (upd_other (by_store pool) s rest t ne)) 64 known in (
         has_shuffled (note ∷ gathered without 64) (all_notes pool) note shuffled (0, omega arith, λ d. refl),
-        (subst (All (λ n. n.store ≡ s)) is (at_home s known)).0,
+        (subst (AllByRecursion (λ n. n.store ≡ s)) is (at_home s known)).0,
       )
 
   choice : (s : ℕ) (ns : List Note) → by_store pool s ≡ ns → Choice (all_notes pool) s (front ns)

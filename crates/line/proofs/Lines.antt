@@ -1,6 +1,6 @@
 -- What code over any kind of line wants of its calls. Assumes nothing.
 use Rattle.std.proofs.Common.{◌≡◌, ℕ, ◌+◌, ◌<◌, ◌≤◌, true, cond, List, ◌∷◌, length, is_some, is_ok, Some, None, Ok, Err, Option, Result, sym, refl, ap, arith}
-use Rattle.std.specs.List.{ContainsAt as Has}
+use Rattle.std.specs.List.{ContainsAt}
 use Rattle.std.specs.List.Sorted.{IsPermutation}
 use Rattle.std.proofs.ByRecursion.{all-has}
 use Rattle.std.proofs.lemmas.List.Sorted.{length_permutation}
@@ -34,7 +34,7 @@ take_counts (Some _) waiting old new p = sym (one_more p)
 take_counts None waiting old new p = omega (arith, ap (λ l. length (waiting l)) p)
 
 -- a store for which a note waits is handed one
-pub handed : {notes : List Note} {capacity : ℕ} {chosen : ℕ → Option Note} → Lawful notes capacity chosen → (note : Note) → Has notes note → is_some (chosen note.store) ≡ true
+pub handed : {notes : List Note} {capacity : ℕ} {chosen : ℕ → Option Note} → Lawful notes capacity chosen → (note : Note) → ContainsAt notes note → is_some (chosen note.store) ≡ true
 handed {notes} {capacity} {chosen} law note has = by_choice (chosen note.store) (law.choice note.store)
   where
     by_choice : (o : Option Note) → Choice notes note.store o → is_some o ≡ true

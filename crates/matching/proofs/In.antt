@@ -1,6 +1,6 @@
 -- Members of lists that are put together. Assumes nothing.
 use Rattle.std.proofs.Common.{◌≡◌, zero, suc, ◌⊎◌, List, [], ◌∷◌, ◌++◌, map, sym, refl, ap, inl, inr, ⊎_elim, arith}
-use Rattle.std.specs.List.{ContainsAt as Has}
+use Rattle.std.specs.List.{ContainsAt}
 use Rattle.std.specs.List.Sorted.{IsPermutation}
 use Rattle.std.proofs.lemmas.List.Sorted.{IsPermutation-sym}
 use Rattle.std.proofs.ByRecursion.{has_shuffled}
@@ -22,12 +22,12 @@ module _ {A : Type 0} where
   in_either (y ∷ xs) ys x (inr m) = ⊎_elim (λ k. inl (inr k)) inr (in_either xs ys x m)
 
   -- a member stands at some place
-  in_has : (xs : List A) (x : A) → x ∈ xs → Has xs x
+  in_has : (xs : List A) (x : A) → x ∈ xs → ContainsAt xs x
   in_has [] x m = absurd m
   in_has (y ∷ xs) x (inl e) = (0, omega arith, λ d. sym e)
   in_has (y ∷ xs) x (inr m) = let h = in_has xs x m in (suc h.0, omega (arith, h.1), h.2)
 
-  has_in : (xs : List A) (x : A) → Has xs x → x ∈ xs
+  has_in : (xs : List A) (x : A) → ContainsAt xs x → x ∈ xs
   has_in [] x h = absurd (omega (arith, h.1))
   has_in (y ∷ xs) x (zero, less, at) = inl (sym (at x))
   has_in (y ∷ xs) x (suc k, less, at) = inr (has_in xs x (k, omega (arith, less), at))
@@ -39,7 +39,7 @@ module _ {A : Type 0} where
   pub in_unshuffled : (xs ys : List A) (x : A) → IsPermutation xs ys → x ∈ ys → x ∈ xs
   in_unshuffled xs ys x s m = in_shuffled ys xs x (IsPermutation-sym xs ys s) m
 
-  pub has_member : (xs : List A) (x : A) → Has xs x → x ∈ xs
+  pub has_member : (xs : List A) (x : A) → ContainsAt xs x → x ∈ xs
   has_member = has_in
 
 -- members of a mapped list

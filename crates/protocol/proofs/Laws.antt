@@ -1,7 +1,7 @@
 -- The law of rounds. Assumes nothing.
 use Rattle.std.proofs.Common.{◌≡◌, ℕ, zero, suc, ◌*◌, ◌<◌, ◌≤◌, Bool, true, false, not, ◌&&◌, ◌||◌, eqb, ltb, leb, ◌⊎◌, List, [], ◌∷◌, length, get_or, is_some, Some, None, sum_by, Option, unwrap_or, sym, refl, ap, ◌∙◌, subst, inl, inr, ⊎_elim, arith}
 use Rattle.std.specs.Option.{option_map}
-use Rattle.std.specs.List.{AllZip, AllByRecursion as All}
+use Rattle.std.specs.List.{AllZip, AllByRecursion}
 use Rattle.std.proofs.lemmas.Bool.{both_ways, cases_eq, cases_Bool, eqb-true, eq-eqb, or_from, and_left, and_right, le-ltb, lt-ltb, lt-leb, leb-true, false≢true, not_from_true, or_cases, or_left, or_right}
 use Rattle.line.specs.declared.Note.{Note}
 use Rattle.line.specs.Law as lines
@@ -40,7 +40,7 @@ use Rattle.protocol.proofs.Tops.{can_choose, can_receive, Receipt}
 use Rattle.protocol.proofs.Greedy.{recorded_greedy, lone_greedy, entire, lower_stable}
 
 -- a note that waits is for its store
-none_has : (l : List Note) (n : Note) → n ∈ l → All (λ x. x.store ≡ n.store → ⊥) l → ⊥
+none_has : (l : List Note) (n : Note) → n ∈ l → AllByRecursion (λ x. x.store ≡ n.store → ⊥) l → ⊥
 none_has [] n i all = i
 none_has (x ∷ l) n (inl e) all = all.0 (ap (λ (y : Note). y.store) (sym e))
 none_has (x ∷ l) n (inr i) all = none_has l n i all.1

@@ -1,6 +1,6 @@
 -- The starts of rows, written row by row. Assumes nothing.
 use Rattle.std.proofs.Common.{◌≡◌, ℕ, ◌+◌, ◌-◌, ◌<◌, ◌≤◌, cond, ltb, List, [], ◌∷◌, ◌++◌, map, length, get_or, drop, count_by, sym, refl, ap, ◌∙◌, ⊎_elim, arith, length-append, length-drop}
-use Rattle.std.specs.List.{range_with_len, AllByRecursion as All}
+use Rattle.std.specs.List.{range_with_len, AllByRecursion}
 use Rattle.std.proofs.lemmas.List.FromFn.{length-map-range_with_len, get_or-map-range_with_len}
 use Rattle.std.proofs.ByRecursion.{All-push, All-weaker}
 use Rattle.std.proofs.lemmas.List.{ext_get_or, get_or_append_left, get_or-append_right, get_or-drop}
@@ -13,7 +13,7 @@ use Rattle.reading.specs.Outcome.{laid, starts_of}
 abbrev pub below : ℕ → List Entry → ℕ
 below w xs = count_by (λ x. ltb x.row w) xs
 
-below_all : (w : ℕ) (xs : List Entry) → All (λ x. x.row < w) xs → below w xs ≡ length xs
+below_all : (w : ℕ) (xs : List Entry) → AllByRecursion (λ x. x.row < w) xs → below w xs ≡ length xs
 below_all w [] h = refl
 below_all w (x ∷ xs) h =
     let one : cond {A = ℕ} (ltb x.row w) 1 0 ≡ 1 = ap (λ b. cond {A = ℕ} b 1 0) (lt-ltb x.row w h.0) in
@@ -28,7 +28,7 @@ below_push w xs x h =
 
 -- the rows below `marked` have their starts, of which there are `old` ones in the other places
 pub record Marked (old starts : List ℕ) (xs : List Entry) (marked : ℕ) : Type 0 where
-  pub rows : All (λ x. x.row < marked) xs
+  pub rows : AllByRecursion (λ x. x.row < marked) xs
   pub counted : (w : ℕ) → w < marked → get_or starts w 0 ≡ below w xs
   pub kept : (w : ℕ) → marked ≤ w → get_or starts w 0 ≡ get_or old w 0
 

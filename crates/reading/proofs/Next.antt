@@ -1,6 +1,6 @@
 -- Where a longer run of right lines stands at one front, a right line comes next. Assumes nothing.
 use Rattle.std.proofs.Common.{◌≡◌, ℕ, zero, suc, ◌+◌, ◌<◌, List, [], ◌∷◌, ◌++◌, map, length, get_or, sym, refl, ap, ◌∙◌, subst, append_assoc, append-nil, arith, length-append}
-use Rattle.std.specs.List.{AllByRecursion as All}
+use Rattle.std.specs.List.{AllByRecursion}
 use Rattle.std.proofs.lemmas.List.{length-map, map-append, map_push}
 use Rattle.text.specs.Rows.{Begins, none, line}
 use Rattle.text.proofs.OneWay.{begins_strip}
@@ -34,7 +34,7 @@ parted (x ∷ xs) (suc k) h =
     let rest = parted xs k (omega arith) in
     (x ∷ rest.0, rest.1, rest.2, ap (λ l. x ∷ l) rest.3, ap suc rest.4)
 
-all_mid : {X : Type 0} (P : X → Type 0) (ts : List X) (x : X) (us : List X) → All P (ts ++ x ∷ us) → P x
+all_mid : {X : Type 0} (P : X → Type 0) (ts : List X) (x : X) (us : List X) → AllByRecursion P (ts ++ x ∷ us) → P x
 all_mid P [] x us h = h.0
 all_mid P (t ∷ ts) x us h = all_mid P ts x us h.1
 
@@ -42,7 +42,7 @@ pub length_parcel_rows : (i : ℕ) (ps : List Parcel) → length (parcel_rows i 
 length_parcel_rows i [] = refl
 length_parcel_rows i (p ∷ ps) = ap suc (length_parcel_rows (i + 1) ps)
 
-pub next_parcel : {qs : List Parcel} {was a c : List ℕ} (ps : List Parcel) (more : List (List ℕ)) → Parcels qs was a → All FitParcel ps → Begins (parcel_rows 0 ps ++ more) was c → (k : ℕ) → length qs ≡ k → k < length ps → (p : Parcel) × (after : List ℕ) × FitParcel p × Begins (parcel_row k p ∷ []) a after
+pub next_parcel : {qs : List Parcel} {was a c : List ℕ} (ps : List Parcel) (more : List (List ℕ)) → Parcels qs was a → AllByRecursion FitParcel ps → Begins (parcel_rows 0 ps ++ more) was c → (k : ℕ) → length qs ≡ k → k < length ps → (p : Parcel) × (after : List ℕ) × FitParcel p × Begins (parcel_row k p ∷ []) a after
 next_parcel {qs} {was} {a} {c} ps more h fit b k so less =
     let cut = parted ps k less in
     let ts = cut.0 in
@@ -57,7 +57,7 @@ next_parcel {qs} {was} {a} {c} ps more h fit b k so less =
     let number : 0 + length ts ≡ k = omega (arith, cut.4) in (
       p,
       first.0,
-      all_mid FitParcel ts p us (subst (All FitParcel) cut.3 fit),
+      all_mid FitParcel ts p us (subst (AllByRecursion FitParcel) cut.3 fit),
       subst (λ i. Begins (parcel_row i p ∷ []) a first.0) number (subst (λ l. Begins (parcel_row (0 + length ts) p ∷ []) l first.0) (sym here) first.1),
     )
 
@@ -87,7 +87,7 @@ next_entry {count} {parcels} {xs} {was} {a} {c} ys h k less =
     ap (map row_of) cut.3 ∙ map-append row_of ts (x ∷ us) ∙ ap (λ l. l ++ (x.row ∷ map row_of us)) lines ∙ sym (append_assoc (map row_of xs) (x.row ∷ []) (map row_of us)) ∙ ap (λ l. l ++ map row_of us) (sym (map_push row_of xs x)) in (
       x,
       first.0,
-      all_mid (FitEntry count parcels) ts x us (subst (All (FitEntry count parcels)) cut.3 k.fit),
+      all_mid (FitEntry count parcels) ts x us (subst (AllByRecursion (FitEntry count parcels)) cut.3 k.fit),
       falls_front (map row_of (xs ++ x ∷ [])) (map row_of us) (subst NeverFalls order k.in_order),
       subst (λ l. Begins (entry_row x ∷ []) l first.0) (sym same.1) first.1,
     )

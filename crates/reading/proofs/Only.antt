@@ -1,6 +1,6 @@
 -- A reading has one outcome only. Assumes nothing.
 use Rattle.std.proofs.Common.{◌≡◌, ℕ, ◌+◌, ◌-◌, ◌≤◌, List, [], ◌∷◌, map, length, get_or, take, drop, Err, Result, sym, refl, ap, ◌∙◌, subst, inl, inr, ⊎_elim, arith, take-append-drop}
-use Rattle.std.specs.List.{AllByRecursion as All}
+use Rattle.std.specs.List.{AllByRecursion}
 use Rattle.std.proofs.ByRecursion.{All-take}
 use Rattle.std.proofs.lemmas.List.{length-map, length-take-le, map-append}
 use Rattle.std.proofs.lemmas.Bool.{cases_lt, cases_order}
@@ -69,7 +69,7 @@ shorter {count} {k} {z} {bs} j r some less =
     so_far head ps (take m xs)
     (record { fit = r.right.fit_parcels; written = cut.1 })
     (record {
-      fit = All-take (FitEntry count z.parcels) m xs (subst (λ s. All (FitEntry count s.parcels) xs) r.sizes r.right.fit_entries);
+      fit = All-take (FitEntry count z.parcels) m xs (subst (λ s. AllByRecursion (FitEntry count s.parcels) xs) r.sizes r.right.fit_entries);
       in_order = falls_front (map row_of (take m xs)) (map row_of (drop m xs)) (subst NeverFalls (ap (map row_of) (sym (take-append-drop m xs)) ∙ map-append row_of (take m xs) (drop m xs)) r.right.in_order);
       written = front.1;
     })

@@ -1,6 +1,6 @@
 -- The first wrong line of a text, and a text that is right as a whole. Assumes nothing.
 use Rattle.std.proofs.Common.{◌≡◌, ℕ, ◌+◌, ◌<◌, ◌≤◌, List, [], ◌∷◌, ◌++◌, map, length, sym, refl, ap, subst, ⊎_elim, arith}
-use Rattle.std.specs.List.{AllByRecursion as All}
+use Rattle.std.specs.List.{AllByRecursion}
 use Rattle.std.proofs.lemmas.List.{length-map}
 use Rattle.std.proofs.lemmas.Bool.{cases_lt}
 use Rattle.text.specs.Rows.{Begins, none}
@@ -59,7 +59,7 @@ module _ {count : ℕ} {z : Sizes} {bs a : List ℕ} (first : Begins (sizes_row 
         let long : length (parcel_rows 0 ps) ≡ length (parcel_rows 0 l.parcels) = omega (arith, length_parcel_rows 0 ps, length_parcel_rows 0 l.parcels) in
         let here = (same_end passed.written cut.1 long).1 in
         record {
-          fit = subst (λ s. All (FitEntry count s.parcels) l.entries) e r.fit_entries;
+          fit = subst (λ s. AllByRecursion (FitEntry count s.parcels) l.entries) e r.fit_entries;
           in_order = r.in_order;
           written = subst (λ x. Begins (map entry_row l.entries) x rest) (sym here) cut.2;
         }

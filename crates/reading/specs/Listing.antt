@@ -1,6 +1,6 @@
 -- The values that the text of a sheet writes, and its lines. Assumes nothing.
 use Rattle.std.specs.Prelude.{◌≡◌, ℕ, ◌+◌, ◌<◌, ◌≤◌, List, [], ◌∷◌, ◌++◌, map, length, slice_index}
-use Rattle.std.specs.List.{AllByRecursion as All}
+use Rattle.std.specs.List.{AllByRecursion}
 use Rattle.text.specs.Rows.{Begins}
 use Rattle.reading.specs.declared.Sizes.{Sizes}
 use Rattle.reading.specs.declared.rows.Parcel.{Parcel}
@@ -62,8 +62,8 @@ pub record Right (count : ℕ) (l : Listing) : Type 0 where
   pub parcels : length l.parcels ≤ l.sizes.parcels
   pub entries : length l.entries ≤ l.sizes.entries
   pub after : 0 < length l.entries → length l.parcels ≡ l.sizes.parcels
-  pub fit_parcels : All FitParcel l.parcels
-  pub fit_entries : All (FitEntry count l.sizes.parcels) l.entries
+  pub fit_parcels : AllByRecursion FitParcel l.parcels
+  pub fit_entries : AllByRecursion (FitEntry count l.sizes.parcels) l.entries
   pub in_order : NeverFalls (map (λ x. x.row) l.entries)
 
 -- the text writes the whole listing, and no more

@@ -1,6 +1,6 @@
 -- Lines that are passed one by one, up to the first that is wrong. Assumes nothing.
 use Rattle.std.specs.Prelude.{◌≡◌, ℕ, List, [], ◌∷◌, ◌++◌, map, length}
-use Rattle.std.specs.List.{AllByRecursion as All}
+use Rattle.std.specs.List.{AllByRecursion}
 use Rattle.text.specs.Rows.{Begins}
 use Rattle.reading.specs.declared.Sizes.{Sizes}
 use Rattle.reading.specs.declared.rows.Parcel.{Parcel}
@@ -8,7 +8,7 @@ use Rattle.reading.specs.Listing.{Entry, parcel_row, parcel_rows, entry_row, Fit
 
 -- the lines of these parcels stand at the front of `was`, and `is` follows
 pub record Parcels (ps : List Parcel) (was is : List ℕ) : Type 0 where
-  pub fit : All FitParcel ps
+  pub fit : AllByRecursion FitParcel ps
   pub written : Begins (parcel_rows 0 ps) was is
 
 -- after the lines of k parcels comes no line of a parcel
@@ -21,7 +21,7 @@ pub record NoParcel (k : ℕ) (was : List ℕ) : Type 0 where
 
 -- the lines of these entries stand at the front of `was`, and `is` follows
 pub record Entries (count parcels : ℕ) (xs : List Entry) (was is : List ℕ) : Type 0 where
-  pub fit : All (FitEntry count parcels) xs
+  pub fit : AllByRecursion (FitEntry count parcels) xs
   pub in_order : NeverFalls (map (λ x. x.row) xs)
   pub written : Begins (map entry_row xs) was is
 

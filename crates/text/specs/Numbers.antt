@@ -1,6 +1,6 @@
 -- How a number stands in a text: its form, and apart from that its value. Assumes nothing.
 use Rattle.std.specs.Prelude.{◌≡◌, ℕ, ◌+◌, ◌-◌, ◌*◌, ◌<◌, ◌≤◌, List, length, fold, slice_index_or}
-use Rattle.std.specs.List.{AllByRecursion as All}
+use Rattle.std.specs.List.{AllByRecursion}
 
 -- the byte of a decimal digit
 abbrev pub Digit : ℕ → Type 0
@@ -8,7 +8,7 @@ Digit b = (48 ≤ b) × (b ≤ 57)
 
 -- the form of a number: digits, at least one, with no zero in front but of 0 itself
 pub record Form (bs : List ℕ) : Type 0 where
-  pub digits : All Digit bs
+  pub digits : AllByRecursion Digit bs
   pub some : 0 < length bs
   pub plain : slice_index_or bs 0 0 ≡ 48 → length bs ≡ 1
 

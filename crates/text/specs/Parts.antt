@@ -1,12 +1,12 @@
 -- What is left of a text or of a line, and what is handed out of it. Assumes nothing.
 use Rattle.std.specs.Prelude.{◌≡◌, ℕ, ◌+◌, ◌-◌, ◌^◌, min, ◌⊎◌, List, ◌∷◌, ◌++◌, length, drop, Some, None, Option, ◌≢◌}
-use Rattle.std.specs.List.{AllByRecursion as All}
+use Rattle.std.specs.List.{AllByRecursion}
 use Rattle.text.specs.declared.Part.{Part}
 use Rattle.text.specs.declared.Lines.{Lines}
 
 -- the byte b is not in bs
 abbrev pub Free : ℕ → List ℕ → Type 0
-Free b bs = All (λ x. x ≢ b) bs
+Free b bs = AllByRecursion (λ x. x ≢ b) bs
 
 -- the bytes of the text that no line was made of yet
 abbrev pub left : Lines → List ℕ

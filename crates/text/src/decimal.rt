@@ -1,10 +1,10 @@
 ghost use Rattle.std.specs.Prelude.{◌≡◌, ℕ, ◌<◌, List, length, Some, None, Decides};
-ghost use Rattle.std.specs.List.{AllByRecursion as All};
+ghost use Rattle.std.specs.List.{AllByRecursion};
 ghost use Rattle.text.specs.Examples.{Examples};
 ghost use Rattle.text.specs.Numbers.{Digit, Form, value, Numeral};
 
 fn all_digits(bytes: &[u8]) -> bool
-    ensures { Decides result (All Digit bytes.now) }
+    ensures { Decides result (AllByRecursion Digit bytes.now) }
 {
     for b in bytes {
         if *b < b'0' || *b > b'9' {
@@ -26,7 +26,7 @@ fn has_form(bytes: &[u8]) -> bool
 
 // The number that the digits write, where 32 bits hold it.
 fn value_of(digits: &[u8]) -> Option<u32>
-    requires { All Digit digits.now }
+    requires { AllByRecursion Digit digits.now }
     ensures { elim result [ Some v ↦ v ≡ value digits.now | None ↦ 4294967295 < value digits.now ] }
 {
     let mut value: u32 = 0;

@@ -1,4 +1,4 @@
-use Rattle.std.proofs.Common.{refl, ap, ◌∙◌, subst, inl, inr, arith}
+use Rattle.std.proofs.Common.{refl, ◌∙◌, subst, inl, inr, arith}
 use Rattle.ranking.specs.Kinds.{cents_atleast}
 use Rattle.sheet.specs.Held.{held}
 use Rattle.round.specs.Closing.{OpenRefused}

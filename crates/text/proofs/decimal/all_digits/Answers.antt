@@ -1,5 +1,5 @@
 use Rattle.std.proofs.Common.{refl, subst, arith}
-use Rattle.std.specs.List.{AllByRecursion as All}
+use Rattle.std.specs.List.{AllByRecursion}
 use Rattle.std.proofs.ByRecursion.{All-get_or, All-more}
 use Rattle.std.proofs.lemmas.List.{take_all}
 use Rattle.std.proofs.lemmas.Bool.{false≢true}
@@ -16,4 +16,4 @@ returns-then-b-lt48 c = (
 )
 
 pub returns : goal.returns
-returns c = (λ _. subst (All Digit) (take_all c.loop-b.b-index c.args.bytes.now (omega arith)) c.loop-b.invariant, λ _. refl)
+returns c = (λ _. subst (AllByRecursion Digit) (take_all c.loop-b.b-index c.args.bytes.now (omega arith)) c.loop-b.invariant, λ _. refl)
