@@ -5,5 +5,6 @@ pub mod Carried
 pub mod Receipt
 pub mod Coming
 pub mod Handed
+pub mod Sent
 pub mod Filled
 pub mod Ended
