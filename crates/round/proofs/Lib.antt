@@ -6,5 +6,4 @@ pub mod Receipt
 pub mod Coming
 pub mod Handed
 pub mod Sent
-pub mod Filled
 pub mod Ended

@@ -1,5 +1,5 @@
 -- Turns one after the other, as a run makes them. Assumes nothing.
-use Rattle.std.proofs.Common.{◌≡◌, ℕ, suc, ◌+◌, ◌-◌, ◌<◌, ◌≤◌, Bool, true, List, length, is_some, Some, Ok, Err, sym, refl, ap, ◌∙◌, subst, arith}
+use Rattle.std.proofs.Common.{◌≡◌, ℕ, suc, ◌+◌, ◌-◌, ◌<◌, ◌≤◌, Bool, true, List, length, is_some, Some, Ok, Err, sym, ap, ◌∙◌, subst, arith}
 use Rattle.std.proofs.lemmas.Bool.{true≢false}
 use Rattle.rounds.specs.Next.{NextTurn, Turned}
 use Rattle.rounds.specs.declared.Turn.{Turn}
@@ -9,25 +9,14 @@ use Rattle.line.specs.declared.Note.{Note}
 use Rattle.records.specs.declared.Record.{Record}
 use Rattle.sheet.specs.Graph.{Graph}
 use Rattle.protocol.specs.World.{World, fits}
-use Rattle.protocol.specs.Steps.{Chooses, alone, waits, pairs, Receives, hears, agrees, loses, turns}
 use Rattle.protocol.specs.Turns.{Changes, Started, Fetched}
 use Rattle.protocol.specs.Runs.{LowestIdle, LowestStore, Quiet, Ran, still, spent, refused_start, refused_fetch, then_start, then_fetch}
 use Rattle.protocol.specs.declared.Ending.{Ending}
 use Rattle.protocol.specs.declared.Ending.TheVariants.{Still, Spent, Refused}
 use Rattle.protocol.proofs.Holds.{fits_facts, facts_fit}
+use Rattle.protocol.proofs.Long.{chooses_long, receives_long}
 
 module _ {K : Type 0} (atleast : K → K → Bool) (t : Graph K) where
-  chooses_long : {u : ℕ} {m : List ℕ} {r : Record} {m' : List ℕ} {out : List Note} → Chooses atleast t u m r m' out → length m' ≡ length m
-  chooses_long (alone _) = refl
-  chooses_long (waits _ _) = refl
-  chooses_long (pairs _ _ go) = go.long
-
-  receives_long : {n : Note} {r r' : Record} {m m' : List ℕ} {out : List Note} → Receives atleast t n r m r' m' out → length m' ≡ length m
-  receives_long {n} {r} {r'} {m} (hears _ _) = length-set m _ _
-  receives_long {n} {r} {r'} {m} (agrees _ _ go) = go.long ∙ length-set m _ _
-  receives_long {n} {r} {r'} {m} (loses _ _) = length-set m _ _
-  receives_long {n} {r} {r'} {m} (turns _ _ ch) = chooses_long ch ∙ length-set m _ _
-
   changes_fit : {w w' : World} {u : ℕ} {r : Record} {m : List ℕ} {rest out : List Note} → fits t w ≡ true → Changes w u r m rest out w' → length m ≡ length w.marks → fits t w' ≡ true
   changes_fit {w} {w'} {u} {r} fit ch long =
       let f = fits_facts t w fit in

@@ -54,7 +54,7 @@ pub begins_append : {a b c : List ℕ} {rows more : List (List ℕ)} → Begins 
 begins_append {c} {more} (none e) d = subst (λ x. Begins more x c) (sym e) d
 begins_append (line l r v e h) d = line l r v e (begins_append h d)
 
--- values-one-way: what a line writes is one row only
+-- values_one_way: what a line writes is one row only
 pub values_one_way : {vs ws bs : List ℕ} → Values vs bs → Values ws bs → vs ≡ ws
 values_one_way (one n) (one m) = let e = n.is ∙ sym m.is in cc
 values_one_way (one n) (more f a m e w) = absurd (free_lacks 44 f a (subst (Free 44) e (no_comma n)))

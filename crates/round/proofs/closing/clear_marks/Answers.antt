@@ -1,5 +1,5 @@
 use Rattle.std.proofs.Common.{arith}
-use Rattle.round.proofs.Filled.{filled_more, filled_all}
+use Rattle.records.proofs.Filled.{filled_more, filled_all}
 use Rattle.round.proofs.closing.clear_marks.Goals as goal
 
 pub loop-m-preserved : goal.loop-m-preserved

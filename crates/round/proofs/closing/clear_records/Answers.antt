@@ -1,5 +1,5 @@
 use Rattle.std.proofs.Common.{arith}
-use Rattle.round.proofs.Filled.{filled_more, filled_all}
+use Rattle.records.proofs.Filled.{filled_more, filled_all}
 use Rattle.round.proofs.closing.clear_records.Goals as goal
 
 pub loop-r-preserved : goal.loop-r-preserved
