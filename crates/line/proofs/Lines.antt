@@ -5,6 +5,7 @@ use Rattle.std.specs.List.Sorted.{IsPermutation}
 use Rattle.std.proofs.ByRecursion.{all-has}
 use Rattle.std.proofs.lemmas.List.Sorted.{length_permutation}
 use Rattle.std.proofs.lemmas.Bool.Decides.{nat_tests}
+use Rattle.faults.specs.declared.Refusal.{Refusal}
 use Rattle.line.specs.declared.Note.{Note}
 use Rattle.line.specs.Law.{Lawful, Choice}
 use Rattle.line.specs.Calls.{put_answer, Put, Taken}
@@ -25,7 +26,7 @@ pub one_more : {note : Note} {old new : List Note} → IsPermutation (note ∷ o
 one_more {note} {old} {new} s = omega (arith, length_permutation (note ∷ old) new s)
 
 -- the same by what a put and a take answered
-pub put_counts : {L : Type 0} (r : Result (Unit {0}) (ℕ × ℕ)) (note : Note) (waiting : L → List Note) (old new : L) → Put r note waiting old new → length (waiting new) ≡ length (waiting old) + cond (is_ok r) 1 0
+pub put_counts : {L : Type 0} (r : Result (Unit {0}) (Refusal × ℕ)) (note : Note) (waiting : L → List Note) (old new : L) → Put r note waiting old new → length (waiting new) ≡ length (waiting old) + cond (is_ok r) 1 0
 put_counts (Ok _) note waiting old new p = one_more p
 put_counts (Err _) note waiting old new p = omega (arith, ap (λ l. length (waiting l)) p)
 

@@ -1,3 +1,4 @@
 pub mod Law
 pub mod Calls
 pub mod Example
+pub mod Kinds

@@ -6,19 +6,51 @@ ghost use Rattle.std.specs.Prelude.{◌≡◌, ℕ, ◌-◌, List, [], ◌∷◌
 ghost use Rattle.line.specs.declared.Note.{Note};
 ghost use Rattle.line.specs.Law.{Lawful};
 ghost use Rattle.line.specs.Calls.{put_answer, Put, Taken};
+ghost use Rattle.line.specs.Kinds.{code, Decodes};
 
 use faults::Fault;
 
-/// A bid: the sender wants to be paired with the addressee.
-pub const BID: u8 = 1;
-/// A drop: the sender can no longer be paired with the addressee.
-pub const DROP: u8 = 2;
 /// The largest capacity of a line.
 pub const MAX_NOTES: u32 = 16_384;
 /// The highest number of a store.
 pub const LAST_STORE: u32 = 63;
 
-/// A note from a parcel to another. Its kind is `BID` or `DROP`; a line carries any other kind too.
+/// What a note says.
+#[derive(Clone, Copy, Debug, PartialEq, Eq)]
+pub enum Kind {
+    /// A bid: the sender wants to be paired with the addressee.
+    Bid = 1,
+    /// A drop: the sender can no longer be paired with the addressee.
+    Drop = 2,
+}
+
+/// A number that is no kind of note.
+#[derive(Clone, Copy, Debug, PartialEq, Eq)]
+pub struct UnknownKind(pub u8);
+
+impl From<Kind> for u8 {
+    ghost from_gives = { λ kind n. n ≡ code kind };
+
+    fn from(kind: Kind) -> u8 {
+        kind as u8
+    }
+}
+
+impl TryFrom<u8> for Kind {
+    type Error = UnknownKind;
+
+    ghost try_from_gives = { Decodes };
+
+    fn try_from(number: u8) -> Result<Kind, UnknownKind> {
+        match number {
+            1 => Ok(Kind::Bid),
+            2 => Ok(Kind::Drop),
+            _ => Err(UnknownKind(number)),
+        }
+    }
+}
+
+/// A note from a parcel to another.
 #[repr(C)]
 #[derive(Clone, Copy)]
 pub struct Note {
@@ -26,6 +58,7 @@ pub struct Note {
     pub addressee: u32,
     /// The addressee's store.
     pub store: u32,
+    /// The number of its `Kind`. C programs fill notes too, and a line carries any number.
     pub kind: u8,
 }
 
@@ -51,7 +84,7 @@ pub trait Line {
     fn size(&self) -> u32
         ensures { result ≡ capacity self.now };
 
-    /// Adds the note once. Fails with `NO_STORE` at the note's store if that is above 63, and else with `NO_ROOM` at
+    /// Adds the note once. Fails with `NoStore` at the note's store if that is above 63, and else with `NoRoom` at
     /// its sender if no place is free; the line then stays as it was.
     fn put(&mut self, note: Note) -> Result<(), Fault>
         ensures answer { result ≡ put_answer note (waiting self.old) (capacity self.old) }

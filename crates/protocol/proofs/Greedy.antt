@@ -15,7 +15,7 @@ use Rattle.pairing.specs.Pairs.{joint, sheet_pairs}
 use Rattle.pairing.specs.Above.{above, greedy_pairing}
 use Rattle.pairing.proofs.Members.{pair_in, pair_from, joint_up, joint_back}
 use Rattle.pairing.proofs.Orders.{above_ordered}
-use Rattle.records.specs.declared.Record.{Record}
+use Rattle.records.specs.declared.record.Record.{Record}
 use Rattle.records.specs.Records.{state, chosen_place, RecordsPair, Entire}
 use Rattle.records.specs.Listed.{lower_pairs}
 use Rattle.records.proofs.Laws.{pairs_listed}

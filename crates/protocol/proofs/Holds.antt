@@ -8,8 +8,9 @@ use Rattle.std.proofs.lemmas.List.Sorted.{length_permutation, IsPermutation-refl
 use Rattle.std.proofs.lemmas.List.{get_or-set_same, get_or-set_other, length-append, length-set}
 use Rattle.std.proofs.lemmas.Bool.{cases_eq, both_ways}
 use Rattle.std.proofs.lemmas.Bool.Decides.{nat_tests}
+use Rattle.faults.specs.declared.Refusal.{Refusal}
 use Rattle.line.specs.declared.Note.{Note}
-use Rattle.records.specs.declared.Record.{Record}
+use Rattle.records.specs.declared.record.Record.{Record}
 use Rattle.records.specs.Records.{record_of, state, chosen_place}
 use Rattle.ranking.specs.Law.{Lawful}
 use Rattle.matching.specs.Pairs.{◌∈◌}
@@ -317,11 +318,11 @@ module _ {K : Type 0} (atleast : K → K → Bool) (laws : Lawful atleast) (t : 
   ran_holds holds (then_start _ s more) = ran_holds (start_holds holds s) more
   ran_holds holds (then_fetch _ f more) = ran_holds (fetch_holds holds f) more
 
-  start_did : (u : ℕ) (w w' : World) (r : Result (Unit {0}) (ℕ × ℕ)) → Holds w → Start atleast t u r w w' → Holds w'
+  start_did : (u : ℕ) (w w' : World) (r : Result (Unit {0}) (Refusal × ℕ)) → Holds w → Start atleast t u r w w' → Holds w'
   start_did u w w' (Ok _) holds s = start_holds holds s
   start_did u w w' (Err f) holds s = subst Holds (sym s.2) holds
 
-  fetch_did : (s : ℕ) (w w' : World) (r : Result (Unit {0}) (ℕ × ℕ)) → Holds w → Fetch atleast t s r w w' → Holds w'
+  fetch_did : (s : ℕ) (w w' : World) (r : Result (Unit {0}) (Refusal × ℕ)) → Holds w → Fetch atleast t s r w w' → Holds w'
   fetch_did s w w' (Ok _) holds f = fetch_holds holds f
   fetch_did s' w w' (Err f) holds s = subst Holds (sym s.2) holds
 

@@ -3,7 +3,7 @@ use Rattle.std.proofs.Common.{◌≡◌, ℕ, ◌+◌, ◌-◌, ◌<◌, Bool, t
 use Rattle.std.proofs.lemmas.List.{get_or-set_same, get_or-set_other}
 use Rattle.std.proofs.lemmas.Bool.{cases_eq, cases_Bool, cond-true, cond-false, and_parts, and_from, eqb-true, eq-eqb, both_ways}
 use Rattle.line.specs.declared.Note.{Note}
-use Rattle.records.specs.declared.Record.{Record}
+use Rattle.records.specs.declared.record.Record.{Record}
 use Rattle.ranking.specs.Law.{Lawful}
 use Rattle.matching.specs.Pairs.{Pair, ◌∈◌}
 use Rattle.matching.proofs.In.{in_front, in_back, in_either, in_map, map_in}

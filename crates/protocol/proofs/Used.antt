@@ -6,7 +6,7 @@ use Rattle.std.proofs.lemmas.List.{length-map}
 use Rattle.std.proofs.lemmas.Bool.Decides.{nat_tests}
 use Rattle.std.proofs.lemmas.Bool.{cases_lt, cases_eq, cases_Bool, both_ways, or_left, or_right, or_cases, not_from_false, not_from_true, not-true, and_parts, and_from, eq-eqb, eqb-true, eqb-false, cond-true, cond-false}
 use Rattle.line.specs.declared.Note.{Note}
-use Rattle.records.specs.declared.Record.{Record}
+use Rattle.records.specs.declared.record.Record.{Record}
 use Rattle.records.specs.Records.{state, chosen_place}
 use Rattle.ranking.specs.Law.{Lawful}
 use Rattle.matching.specs.Pairs.{◌∈◌}

@@ -1,5 +1,6 @@
 -- Histories: every list of calls since open, each beginning where the last one ended. Assumes nothing.
 use Rattle.std.specs.Prelude.{◌≡◌, ℕ, ◌≤◌, Bool, List, [], ◌∷◌, length, Result, slice_index}
+use Rattle.faults.specs.declared.Refusal.{Refusal}
 use Rattle.records.specs.Records.{record_of}
 use Rattle.sheet.specs.Graph.{Graph, parcels, entries}
 use Rattle.protocol.specs.World.{World}
@@ -30,8 +31,8 @@ pub data Call : Type 0 where
 
 -- what a call did: for a start or a fetch with its answer, for a run with its count and end; a refused close alters nothing
 abbrev pub Did : {K : Type 0} → (K → K → Bool) → Graph K → Call → World → World → Type 0
-Did atleast t (start u) w w' = (r : Result (Unit {0}) (ℕ × ℕ)) × Start atleast t u r w w'
-Did atleast t (fetch s) w w' = (r : Result (Unit {0}) (ℕ × ℕ)) × Fetch atleast t s r w w'
+Did atleast t (start u) w w' = (r : Result (Unit {0}) (Refusal × ℕ)) × Start atleast t u r w w'
+Did atleast t (fetch s) w w' = (r : Result (Unit {0}) (Refusal × ℕ)) × Fetch atleast t s r w w'
 Did atleast t (run b) w w' = (n : ℕ) × (e : Ending) × Ran atleast t b w n e w'
 Did atleast t refused_close w w' = w' ≡ w
 

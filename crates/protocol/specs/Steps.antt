@@ -1,7 +1,7 @@
 -- What a parcel does in a turn: it chooses, pairs, or receives a bid or a drop. Assumes nothing.
 use Rattle.std.specs.Prelude.{◌≡◌, ℕ, ◌+◌, ◌-◌, Bool, true, false, cond, ◌&&◌, List, [], ◌∷◌, map, length, ◌==◌, slice_index, slice_set}
 use Rattle.line.specs.declared.Note.{Note}
-use Rattle.records.specs.declared.Record.{Record}
+use Rattle.records.specs.declared.record.Record.{Record}
 use Rattle.sheet.specs.Graph.{Graph, InRow, row_start, place_of}
 use Rattle.choosing.specs.Top.{Top}
 use Rattle.protocol.specs.Marks.{open', bidden, open_others, bid, drop, strike, note_bid, let_go}

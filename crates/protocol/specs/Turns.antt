@@ -1,8 +1,10 @@
 -- Starts and fetches: when each is accepted, what it does, and with which number and place it is refused. Assumes nothing.
 use Rattle.std.specs.Prelude.{◌≡◌, ℕ, ◌+◌, ◌<◌, ◌≤◌, min, Bool, true, false, not, ◌||◌, List, ◌∷◌, ◌++◌, length, Some, None, Ok, Err, Result, ◌==◌, nat_lt, slice_index, slice_set}
 use Rattle.std.specs.List.Sorted.{IsPermutation}
+use Rattle.faults.specs.declared.Refusal.{Refusal}
+use Rattle.faults.specs.Numbers.{number}
 use Rattle.line.specs.declared.Note.{Note}
-use Rattle.records.specs.declared.Record.{Record}
+use Rattle.records.specs.declared.record.Record.{Record}
 use Rattle.records.specs.Records.{record_of, state, astray}
 use Rattle.sheet.specs.Graph.{Graph, parcels, row_end, place_of}
 use Rattle.protocol.specs.World.{World, fits, free}
@@ -50,9 +52,9 @@ module _ {K : Type 0} (atleast : K → K → Bool) (t : Graph K) where
     start_room : {r : Record} {m : List ℕ} {out : List Note} → u < parcels t → fits t w ≡ true → state w.records u ≡ 0 → Chooses atleast t u w.marks r m out → free w < length out → StartRefused w u 17 u
 
   -- what a start answers and does
-  abbrev pub Start : ℕ → Result (Unit {0}) (ℕ × ℕ) → World → World → Type 0
+  abbrev pub Start : ℕ → Result (Unit {0}) (Refusal × ℕ) → World → World → Type 0
   Start u (Ok _) w w' = Started u w w'
-  Start u (Err f) w w' = StartRefused w u f.0 f.1 × (StartAccepted w u → ⊥) × (w' ≡ w)
+  Start u (Err f) w w' = StartRefused w u (number f.0) f.1 × (StartAccepted w u → ⊥) × (w' ≡ w)
 
   -- a note for store s goes astray: its addressee is not a parcel of that store, its sender not in the addressee's row, or its kind neither bid nor drop
   abbrev pub stray : ℕ → Note → Bool
@@ -91,6 +93,6 @@ module _ {K : Type 0} (atleast : K → K → Bool) (t : Graph K) where
     fetch_room : {n : Note} {r : Record} {m : List ℕ} {out : List Note} → s < t.limit → fits t w ≡ true → w.next s ≡ Some n → stray s n ≡ false → astray t w.records n.addressee ≡ false → Receives atleast t n (record_of w.records n.addressee) w.marks r m out → free w + 1 < length out → FetchRefused w s 17 n.addressee
 
   -- what a fetch answers and does
-  abbrev pub Fetch : ℕ → Result (Unit {0}) (ℕ × ℕ) → World → World → Type 0
+  abbrev pub Fetch : ℕ → Result (Unit {0}) (Refusal × ℕ) → World → World → Type 0
   Fetch s (Ok _) w w' = Fetched s w w'
-  Fetch s (Err f) w w' = FetchRefused w s f.0 f.1 × (FetchAccepted w s → ⊥) × (w' ≡ w)
+  Fetch s (Err f) w w' = FetchRefused w s (number f.0) f.1 × (FetchAccepted w s → ⊥) × (w' ≡ w)

@@ -1,7 +1,7 @@
 -- A round at one time: what its calls see. Assumes nothing.
 use Rattle.std.specs.Prelude.{ℕ, ◌-◌, Bool, ◌&&◌, List, length, Option, ◌==◌}
 use Rattle.line.specs.declared.Note.{Note}
-use Rattle.records.specs.declared.Record.{Record}
+use Rattle.records.specs.declared.record.Record.{Record}
 use Rattle.sheet.specs.Graph.{Graph, parcels, entries}
 
 pub record World : Type 0 where

@@ -2,7 +2,7 @@
 #![tactic(auto)]
 
 /// How a run ended.
-#[derive(Clone, Copy)]
+#[derive(Clone, Copy, Debug, PartialEq, Eq)]
 pub enum Ending {
     /// No parcel is idle, and no note waits for the sheet's stores.
     Still,

@@ -4,7 +4,7 @@ use Rattle.std.proofs.lemmas.Bool.{ltb-true, eqb-true, lt-ltb, eq-eqb, and_parts
 use Rattle.matching.specs.Pairs.{Pair, ◌∈◌}
 use Rattle.matching.proofs.In.{in_front, in_back, in_either}
 use Rattle.sheet.specs.Graph.{Graph, parcels, row_end}
-use Rattle.records.specs.declared.Record.{Record}
+use Rattle.records.specs.declared.record.Record.{Record}
 use Rattle.records.specs.Records.{state, chosen_place, chosen}
 use Rattle.records.specs.Listed.{pairs_up, own_pair, pairs_below, lower_pairs, Rising, Listed}
 use Rattle.records.proofs.Listing.{pairs_more_yes, pairs_more_no}

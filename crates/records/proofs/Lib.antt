@@ -1,4 +1,3 @@
 pub mod Refusals
-pub mod Filled
 pub mod Listing
 pub mod Laws

@@ -1,16 +1,16 @@
 -- The list of recorded pairs, one parcel after another. Assumes nothing.
-use Rattle.std.proofs.Common.{◌≡◌, ℕ, ◌+◌, ◌<◌, ◌≤◌, true, false, cond, eqb, ltb, List, [], ◌∷◌, ◌++◌, map, length, is_some, Some, None, sum_by, count_by, filter, Option, sym, ap, ◌∙◌, ⊎_elim, arith}
+use Rattle.std.proofs.Common.{◌≡◌, ℕ, ◌+◌, ◌<◌, ◌≤◌, true, false, cond, eqb, ltb, List, [], ◌∷◌, ◌++◌, map, length, Some, None, sum_by, filter, sym, ap, ◌∙◌, ⊎_elim, arith}
 use Rattle.std.specs.List.{range_with_len}
-use Rattle.std.proofs.lemmas.List.FromFn.{map-range_with_len_more, length-range_with_len}
+use Rattle.std.proofs.lemmas.List.FromFn.{map-range_with_len_more}
 use Rattle.std.proofs.lemmas.List.Elements.{filter-append}
-use Rattle.std.proofs.lemmas.List.{get_or_past, append-nil, map-id, map_push, length-map, length_push}
-use Rattle.std.proofs.lemmas.List.Sums.{sum_by_push, count_by-le-length, length-filter}
-use Rattle.std.proofs.lemmas.Bool.{true≢false, false≢true, eq-eqb, ne_eqb, le-ltb, ltb-true, eqb-true, and_left, and_right, and_parts, cond-true, cond-false, cases_Bool, cases_lt}
+use Rattle.std.proofs.lemmas.List.{get_or_past, append-nil, map-id, map_push}
+use Rattle.std.proofs.lemmas.List.Sums.{sum_by_push}
+use Rattle.std.proofs.lemmas.Bool.{ltb-true, eqb-true, and_parts, cond-true, cond-false, cases_Bool, cases_lt}
 use Rattle.matching.specs.Pairs.{Pair}
 use Rattle.sheet.specs.Graph.{Graph, parcels, row_end}
-use Rattle.records.specs.declared.Record.{Record}
+use Rattle.records.specs.declared.record.Record.{Record}
 use Rattle.records.specs.Records.{state, chosen_place, chosen}
-use Rattle.records.specs.Listed.{pairs_up, partner_above, own_pair, pairs_below, lone_below}
+use Rattle.records.specs.Listed.{pairs_up, partner_above, own_pair, pairs_below}
 
 counting_more : (u : ℕ) → range_with_len 0 (u + 1) ≡ range_with_len 0 u ++ u ∷ []
 counting_more u = sym (map-id (range_with_len 0 (u + 1))) ∙ map-range_with_len_more (λ x. x) 0 u u (omega arith) ∙ ap (λ us. us ++ u ∷ []) (map-id (range_with_len 0 u))
@@ -19,38 +19,7 @@ counting_more u = sym (map-id (range_with_len 0 (u + 1))) ∙ map-range_with_len
 state_past : (rs : List Record) (u : ℕ) → length rs ≤ u → state rs u ≡ 0
 state_past rs u past = ap (λ r. r.state) (get_or_past rs u (record { state = 0; choice = 0 }) past)
 
-module _ (rs : List Record) where
-  lone_more : (u : ℕ) → lone_below rs (u + 1) ≡ lone_below rs u + cond (eqb (state rs u) 3) 1 0
-  lone_more u = ap (count_by (λ v. eqb (state rs v) 3)) (counting_more u) ∙ sum_by_push (λ v. cond (eqb (state rs v) 3) 1 0) (range_with_len 0 u) u
-
-  pub lone_more_yes : (u : ℕ) → state rs u ≡ 3 → lone_below rs (u + 1) ≡ lone_below rs u + 1
-  lone_more_yes u is = lone_more u ∙ ap (λ b. lone_below rs u + cond b 1 0) (eq-eqb (state rs u) 3 is)
-
-  pub lone_more_no : (u : ℕ) → (state rs u ≡ 3 → ⊥) → lone_below rs (u + 1) ≡ lone_below rs u
-  lone_more_no u other = let none : cond {A = ℕ} (eqb (state rs u) 3) 1 0 ≡ 0 = rw (ne_eqb (state rs u) 3 other) in omega (arith, lone_more u)
-
-  pub lone_more_past : (u : ℕ) → length rs ≤ u → lone_below rs (u + 1) ≡ lone_below rs u
-  lone_more_past u past = lone_more_no u (λ e. omega (arith, state_past rs u past))
-
-  pub lone_few : (n : ℕ) → lone_below rs n ≤ n
-  lone_few n = omega (arith, count_by-le-length (λ u. eqb (state rs u) 3) (range_with_len 0 n), length-range_with_len 0 n)
-
 module _ {K : Type 0} (t : Graph K) (rs : List Record) where
-  -- u records no pair with a higher-numbered parcel
-  none_above : (u : ℕ) → pairs_up t rs u ≡ false → None ≡ partner_above t rs u
-  none_above u no-pair = sym (cond-false (pairs_up t rs u) _ None no-pair)
-
-  pub none_unpaired : (u : ℕ) → (state rs u ≡ 2 → ⊥) → None ≡ partner_above t rs u
-  none_unpaired u other = none_above u (and_left (eqb (state rs u) 2) _ (ne_eqb (state rs u) 2 other))
-
-  pub none_past_records : (u : ℕ) → length rs ≤ u → None ≡ partner_above t rs u
-  none_past_records u past = none_unpaired u (λ e. omega (arith, state_past rs u past))
-
-  pub none_past_parcels : (u : ℕ) → length t.starts ≡ parcels t + 1 → parcels t ≤ u → None ≡ partner_above t rs u
-  none_past_parcels u long past =
-      let end : row_end t u ≡ 0 = get_or_past t.starts (u + 1) 0 (omega arith) in
-      none_above u (and_right (eqb (state rs u) 2) _ (and_left (ltb (chosen_place t rs u) (row_end t u)) _ (le-ltb (chosen_place t rs u) (row_end t u) (omega arith))))
-
   -- what the answer of the accessor tells
   pub some_pairs : (u v : ℕ) → Some v ≡ partner_above t rs u → (pairs_up t rs u ≡ true) × (v ≡ chosen t rs u)
   some_pairs u v is =
@@ -85,19 +54,6 @@ module _ {K : Type 0} (t : Graph K) (rs : List Record) where
   pairs_more_none u is = pairs_more_no u (none_pairs u is)
 
   -- how many there are then
-  pub count_more_yes : (u : ℕ) (r : Option ℕ) → r ≡ partner_above t rs u → true ≡ is_some r → length (pairs_below t rs (u + 1)) ≡ length (pairs_below t rs u) + 1
-  count_more_yes u None is some = absurd (true≢false some)
-  count_more_yes u (Some v) is some = ap length (pairs_more_some u v is) ∙ length_push (pairs_below t rs u) (record { lo = u; hi = v })
-
-  pub count_more_no : (u : ℕ) (r : Option ℕ) → r ≡ partner_above t rs u → false ≡ is_some r → length (pairs_below t rs (u + 1)) ≡ length (pairs_below t rs u)
-  count_more_no u None is none = ap length (pairs_more_none u is)
-  count_more_no u (Some v) is none = absurd (false≢true none)
-
-  pub pairs_few : (n : ℕ) → length (pairs_below t rs n) ≤ n
-  pairs_few n =
-      let few = count_by-le-length (pairs_up t rs) (range_with_len 0 n) in
-      omega (arith, length-map (filter (pairs_up t rs) (range_with_len 0 n)) (own_pair t rs), length-filter (pairs_up t rs) (range_with_len 0 n), length-range_with_len 0 n)
-
   -- where the entry stands that u chose
   pub record UpFacts (u : ℕ) : Type 0 where
     pub parcel : u < parcels t

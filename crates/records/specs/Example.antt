@@ -2,7 +2,7 @@
 use Rattle.std.specs.Prelude.{◌≡◌, ℕ, true, false, List, [], ◌∷◌}
 use Rattle.matching.specs.Pairs.{Pair}
 use Rattle.sheet.specs.Graph.{Graph}
-use Rattle.records.specs.declared.Record.{Record}
+use Rattle.records.specs.declared.record.Record.{Record}
 use Rattle.records.specs.Records.{astray}
 use Rattle.records.specs.Listed.{lower_pairs, lone_count}
 

@@ -1,3 +1,4 @@
+pub mod States
 pub mod Records
 pub mod Right
 pub mod Listed

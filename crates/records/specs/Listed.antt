@@ -3,7 +3,7 @@ use Rattle.std.specs.Prelude.{ℕ, ◌<◌, Bool, cond, ◌&&◌, List, [], ◌�
 use Rattle.std.specs.List.{range_with_len}
 use Rattle.matching.specs.Pairs.{Pair, ◌∈◌}
 use Rattle.sheet.specs.Graph.{Graph, parcels, row_end}
-use Rattle.records.specs.declared.Record.{Record}
+use Rattle.records.specs.declared.record.Record.{Record}
 use Rattle.records.specs.Records.{state, chosen_place, chosen, RecordsPair}
 
 -- u records a pair with a higher-numbered parcel

@@ -2,7 +2,7 @@
 use Rattle.std.specs.Prelude.{◌≡◌, ℕ, ◌+◌, ◌<◌, Bool, true, cond, ◌&&◌, ◌||◌, List, length, Some, None, Option, ◌==◌, ◌≢◌, nat_le, nat_lt, slice_index_or}
 use Rattle.matching.specs.Pairs.{Pair, holds, ◌∈◌}
 use Rattle.sheet.specs.Graph.{Graph, parcels, row_start, row_end, other}
-use Rattle.records.specs.declared.Record.{Record}
+use Rattle.records.specs.declared.record.Record.{Record}
 
 -- the record of parcel u
 abbrev pub record_of : List Record → ℕ → Record

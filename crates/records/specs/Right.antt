@@ -1,7 +1,7 @@
 -- Which records are refused, and with which number and place. Assumes nothing.
 use Rattle.std.specs.Prelude.{◌≡◌, ℕ, ◌<◌, true, false, List, length, Some, None, Option, ◌≢◌}
 use Rattle.sheet.specs.Graph.{Graph, parcels}
-use Rattle.records.specs.declared.Record.{Record}
+use Rattle.records.specs.declared.record.Record.{Record}
 use Rattle.records.specs.Records.{astray}
 
 -- no record below parcel u is astray
