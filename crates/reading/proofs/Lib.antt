@@ -4,3 +4,4 @@ pub mod Next
 pub mod Marks
 pub mod Wrong
 pub mod Only
+pub mod Lent

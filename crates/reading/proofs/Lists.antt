@@ -16,6 +16,9 @@ pub four : (xs : List ℕ) → length xs ≡ 4 → xs ≡ get_or xs 0 0 ∷ get_
 four [] e = absurd (omega arith)
 four (a ∷ xs) e = ap (λ l. a ∷ l) (three xs (omega arith))
 
+pub one_longer : {X : Type 0} {n : ℕ} (xs : List X) (x : X) → length xs ≡ n → length (xs ++ x ∷ []) ≡ n + 1
+one_longer xs x e = length_push xs x ∙ ap (λ k. k + 1) e
+
 -- one value more is written into a table
 pub laid_push : {X : Type 0} (vs old : List X) (x : X) (k : ℕ) → length vs ≡ k → k < length old → set (laid vs old) k x ≡ laid (vs ++ x ∷ []) old
 laid_push vs old x k e h =

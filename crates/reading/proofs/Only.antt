@@ -6,6 +6,8 @@ use Rattle.std.proofs.lemmas.List.{length-map, length-take-le, map-append}
 use Rattle.std.proofs.lemmas.Bool.{cases_lt, cases_order}
 use Rattle.text.specs.Rows.{Begins}
 use Rattle.text.proofs.OneWay.{one_row}
+use Rattle.faults.specs.declared.Refusal.{Refusal}
+use Rattle.faults.specs.declared.Refusal.TheVariants as refusal
 use Rattle.reading.specs.declared.Sizes.{Sizes}
 use Rattle.reading.specs.declared.rows.Parcel.{Parcel}
 use Rattle.reading.specs.Listing.{Entry, Listing, sizes_row, parcel_rows, entry_row, FitParcel, FitEntry, NeverFalls, Listed, FirstLine, RightLines, WrongAfter}
@@ -97,12 +99,12 @@ tried_one (inl a) (inr d) f g = absurd (a.0 d.0)
 tried_one (inr b) (inl c) f g = absurd (c.0 b.0)
 tried_one (inr b) (inr d) f g = g b.0 b.1 d.1
 
-module _ {K : Type 0} (made : ℕ → ℕ → K) (count : ℕ) (bs : List ℕ) (before : Tables K) (r q : Result Sizes (ℕ × ℕ)) (after other : Tables K) where
-  refused_one : {f : ℕ × ℕ} → (r ≡ Err f) × (after ≡ before) → (q ≡ Err f) × (other ≡ before) → (q ≡ r) × (other ≡ after)
+module _ {K : Type 0} (made : ℕ → ℕ → K) (count : ℕ) (bs : List ℕ) (before : Tables K) (r q : Result Sizes (Refusal × ℕ)) (after other : Tables K) where
+  refused_one : {f : Refusal × ℕ} → (r ≡ Err f) × (after ≡ before) → (q ≡ Err f) × (other ≡ before) → (q ≡ r) × (other ≡ after)
   refused_one a b = (b.0 ∙ sym a.0, b.1 ∙ sym a.1)
 
   lines_one : (z : Sizes) → OtherLines made count bs before r after z → OtherLines made count bs before q other z → (q ≡ r) × (other ≡ after)
-  lines_one z (inl a) (inl b) = let same = wrong_one a.1 b.1 in refused_one a.2 (b.2.0 ∙ ap (λ k. Err (1, k + 1)) (sym same), b.2.1)
+  lines_one z (inl a) (inl b) = let same = wrong_one a.1 b.1 in refused_one a.2 (b.2.0 ∙ ap (λ k. Err (refusal.Line, k + 1)) (sym same), b.2.1)
   lines_one z (inl a) (inr b) = absurd (a.1.unlisted b.0 b.2 b.1)
   lines_one z (inr a) (inl b) = absurd (b.1.unlisted a.0 a.2 a.1)
   lines_one z (inr a) (inr b) =
@@ -115,9 +117,9 @@ module _ {K : Type 0} (made : ℕ → ℕ → K) (count : ℕ) (bs : List ℕ) (
   one_outcome (inr a) (inl b) = absurd (b.0 a.0 a.1)
   one_outcome (inr a) (inr b) =
       let z = a.0 in
-      let later : Sizes → Type 0 = λ y. Tried (Within y) (Refused made count bs before q other 2 0) (Tried (Room y before) (Refused made count bs before q other 3 0) (OtherLines made count bs before q other y)) in
+      let later : Sizes → Type 0 = λ y. Tried (Within y) (Refused made count bs before q other refusal.Size 0) (Tried (Room y before) (Refused made count bs before q other refusal.Room 0) (OtherLines made count bs before q other y)) in
       tried_one a.2 (subst later (first_one a.1 b.1) b.2) refused_one (λ within c d. tried_one c d refused_one (λ room. lines_one z))
 
 -- an outcome is what is read
-pub read_by : {K : Type 0} {made : ℕ → ℕ → K} {count : ℕ} {bs : List ℕ} {before after : Tables K} {r : Result Sizes (ℕ × ℕ)} → Outcome made count bs before r after → Read made count bs before r after
+pub read_by : {K : Type 0} {made : ℕ → ℕ → K} {count : ℕ} {bs : List ℕ} {before after : Tables K} {r : Result Sizes (Refusal × ℕ)} → Outcome made count bs before r after → Read made count bs before r after
 read_by {made} {count} {bs} {before} {after} {r} o = record { outcome = o; only = λ q t u. one_outcome made count bs before r q after t o u }

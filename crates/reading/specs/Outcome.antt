@@ -1,7 +1,11 @@
 -- What comes of a reading: the first test that fails refuses it, and else the tables are filled. Assumes nothing.
 use Rattle.std.specs.Prelude.{◌≡◌, ℕ, ◌+◌, ◌≤◌, ◌⊎◌, List, ◌++◌, map, length, drop, Ok, Err, count_by, Result, nat_lt}
 use Rattle.std.specs.List.{range_with_len}
+use Rattle.faults.specs.declared.Refusal.{Refusal}
+use Rattle.faults.specs.declared.Refusal.TheVariants as refusal
 use Rattle.reading.specs.declared.Sizes.{Sizes}
+use Rattle.reading.specs.declared.TablesMut.{TablesMut}
+use Rattle.reading.specs.declared.rows.Parcel.{Parcel}
 use Rattle.reading.specs.Listing.{Entry, Listing, key_of, Listed, FirstLine, WrongAfter}
 
 -- the tables that are lent
@@ -14,6 +18,18 @@ pub record Tables (K : Type 0) : Type 0 where
 
 abbrev pub tables : {K : Type 0} → List ℕ → List ℕ → List K → List ℕ → List ℕ → Tables K
 tables starts others keys stores editions = record { starts = starts; others = others; keys = keys; stores = stores; editions = editions }
+
+-- what the lent tables hold
+abbrev pub lent : {K : Type 0} → TablesMut K → Tables K
+lent t = tables t.starts.now t.others.now t.keys.now t.stores.now t.editions.now
+
+-- the same slices are lent, whatever they hold
+pub record SameSlices {K : Type 0} (was is : TablesMut K) : Type 0 where
+  pub starts : is.starts.ghost_name ≡ was.starts.ghost_name
+  pub others : is.others.ghost_name ≡ was.others.ghost_name
+  pub keys : is.keys.ghost_name ≡ was.keys.ghost_name
+  pub stores : is.stores.ghost_name ≡ was.stores.ghost_name
+  pub editions : is.editions.ghost_name ≡ was.editions.ghost_name
 
 -- sizes that are within the limits
 pub record Within (z : Sizes) : Type 0 where
@@ -38,35 +54,37 @@ laid vs old = vs ++ drop (length vs) old
 abbrev pub starts_of : ℕ → List Entry → List ℕ
 starts_of parcels xs = map (λ u. count_by (λ x. nat_lt x.row u) xs) (range_with_len 0 (parcels + 1))
 
+-- the tables with the parcels in them
+abbrev pub with_parcels : {K : Type 0} → List Parcel → Tables K → Tables K
+with_parcels ps t = record t { stores = laid (map (λ p. p.store) ps) t.stores; editions = laid (map (λ p. p.edition) ps) t.editions }
+
+-- the tables with the entries of so many parcels in them
+abbrev pub with_entries : {K : Type 0} → (ℕ → ℕ → K) → ℕ → List Entry → Tables K → Tables K
+with_entries made parcels xs t =
+    record t { starts = laid (starts_of parcels xs) t.starts; others = laid (map (λ x. x.other) xs) t.others; keys = laid (map (key_of made) xs) t.keys }
+
 -- the tables with the values of the listing in them
 abbrev pub filled : {K : Type 0} → (ℕ → ℕ → K) → Listing → Tables K → Tables K
-filled made l t =
-    record {
-      starts = laid (starts_of l.sizes.parcels l.entries) t.starts;
-      others = laid (map (λ x. x.other) l.entries) t.others;
-      keys = laid (map (key_of made) l.entries) t.keys;
-      stores = laid (map (λ p. p.store) l.parcels) t.stores;
-      editions = laid (map (λ p. p.edition) l.parcels) t.editions;
-    }
+filled made l t = with_entries made l.sizes.parcels l.entries (with_parcels l.parcels t)
 
 -- a test that is tried before what comes after it: refused where it fails
 abbrev pub Tried : Type 0 → Type 0 → Type 0 → Type 0
 Tried test refused after = ((test → ⊥) × refused) ⊎ (test × after)
 
-module _ {K : Type 0} (made : ℕ → ℕ → K) (count : ℕ) (bs : List ℕ) (before : Tables K) (r : Result Sizes (ℕ × ℕ)) (after : Tables K) where
-  -- refused with this number and place, and no table changed
-  abbrev pub Refused : ℕ → ℕ → Type 0
-  Refused number place = (r ≡ Err (number, place)) × (after ≡ before)
+module _ {K : Type 0} (made : ℕ → ℕ → K) (count : ℕ) (bs : List ℕ) (before : Tables K) (r : Result Sizes (Refusal × ℕ)) (after : Tables K) where
+  -- refused so at this place, and no table changed
+  abbrev pub Refused : Refusal → ℕ → Type 0
+  Refused wrong place = (r ≡ Err (wrong, place)) × (after ≡ before)
 
   -- the other lines: refused at the first that is wrong, or all read
   abbrev pub OtherLines : Sizes → Type 0
-  OtherLines z = ((k : ℕ) × WrongAfter count z k bs × Refused 1 (k + 1)) ⊎ ((l : Listing) × Listed count l bs × (l.sizes ≡ z) × (r ≡ Ok z) × (after ≡ filled made l before))
+  OtherLines z = ((k : ℕ) × WrongAfter count z k bs × Refused refusal.Line (k + 1)) ⊎ ((l : Listing) × Listed count l bs × (l.sizes ≡ z) × (r ≡ Ok z) × (after ≡ filled made l before))
 
   -- in the order tried: the first line, the sizes, the room, the other lines
   abbrev pub Outcome : Type 0
-  Outcome = (((z : Sizes) → FirstLine z bs → ⊥) × Refused 1 1) ⊎ ((z : Sizes) × FirstLine z bs × Tried (Within z) (Refused 2 0) (Tried (Room z before) (Refused 3 0) (OtherLines z)))
+  Outcome = (((z : Sizes) → FirstLine z bs → ⊥) × Refused refusal.Line 1) ⊎ ((z : Sizes) × FirstLine z bs × Tried (Within z) (Refused refusal.Size 0) (Tried (Room z before) (Refused refusal.Room 0) (OtherLines z)))
 
 -- what came is the outcome, and no other answer and no other tables would be one
-pub record Read {K : Type 0} (made : ℕ → ℕ → K) (count : ℕ) (bs : List ℕ) (before : Tables K) (r : Result Sizes (ℕ × ℕ)) (after : Tables K) : Type 0 where
+pub record Read {K : Type 0} (made : ℕ → ℕ → K) (count : ℕ) (bs : List ℕ) (before : Tables K) (r : Result Sizes (Refusal × ℕ)) (after : Tables K) : Type 0 where
   pub outcome : Outcome made count bs before r after
-  pub only : (q : Result Sizes (ℕ × ℕ)) (t : Tables K) → Outcome made count bs before q t → (q ≡ r) × (t ≡ after)
+  pub only : (q : Result Sizes (Refusal × ℕ)) (t : Tables K) → Outcome made count bs before q t → (q ≡ r) × (t ≡ after)

@@ -3,53 +3,61 @@ ghost use Rattle.text.specs.Parts.{left};
 ghost use Rattle.reading.specs.declared.rows.Parcel.{Parcel};
 ghost use Rattle.text.specs.Rows.{Begins};
 ghost use Rattle.reading.specs.Listing.{Entry, sizes_row, WrongAfter};
+ghost use Rattle.reading.specs.Outcome.{Within};
 ghost use Rattle.reading.specs.Passing.{Parcels, NoParcel, Entries, NoEntry, AllPassed};
 
 use super::Sizes;
 use super::rows::{entry_line, parcel_line};
-use faults::{Fault, LINE};
+use faults::{Fault, Refusal};
 use ranking::Ranking;
 use text::Lines;
 
-// Passes the lines of all parcels; refuses at the first that is wrong or missing.
-pub(super) fn check_parcels(lines: &mut Lines<'_>, parcels: u32) -> Result<(), Fault>
-    requires { parcels ≤ 1024 }
-    ensures { elim result [ Ok _ ↦ ((ps : List Parcel) × (length ps ≡ parcels) × Parcels ps (left lines.old) (left lines.new)) | Err f ↦ ((k : ℕ) × (k < parcels) × (f ≡ (1, k + 2)) × NoParcel k (left lines.old)) ] }
-{
-    for i in 0..parcels {
-        let Some(_) = parcel_line(lines, i) else {
-            return Err((LINE, i + 2));
-        };
-    }
-    Ok(())
+/// What is left of a text after its first line, and the sizes which that line has and which are within the limits.
+#[derive(Clone, Copy)]
+pub struct Body<'a> {
+    pub lines: Lines<'a>,
+    pub sizes: Sizes,
+    ghost within: { Within sizes },
 }
 
-// Passes the lines of all entries; refuses at the first that is wrong or missing.
-pub(super) fn check_entries<K: Ranking>(lines: &mut Lines<'_>, sizes: Sizes) -> Result<(), Fault>
-    requires parcels_bound { sizes.parcels ≤ 1024 }
-    requires entries_bound { sizes.entries ≤ 16384 }
-    ensures { elim result [ Ok _ ↦ ((xs : List Entry) × (length xs ≡ sizes.entries) × Entries K.Ranking.fields sizes.parcels xs (left lines.old) (left lines.new)) | Err f ↦ ((k : ℕ) × (k < sizes.entries) × (f ≡ (1, sizes.parcels + k + 2)) × NoEntry K.Ranking.fields sizes.parcels k (left lines.old)) ] }
-{
-    let mut low = 0;
-    for j in 0..sizes.entries {
-        let Some(entry) = entry_line::<K>(lines, sizes.parcels, low) else {
-            return Err((LINE, sizes.parcels + j + 2));
-        };
-        low = entry.row;
+impl Body<'_> {
+    // Passes the lines of all parcels; refuses at the first that is wrong or missing.
+    fn check_parcels(&mut self) -> Result<(), Fault>
+        ensures lines { elim result [ Ok _ ↦ ((ps : List Parcel) × (length ps ≡ self.old.sizes.parcels) × Parcels ps (left self.old.lines) (left self.new.lines)) | Err f ↦ ((k : ℕ) × (k < self.old.sizes.parcels) × (f ≡ (Refusal.Line, k + 2)) × NoParcel k (left self.old.lines)) ] }
+        ensures sizes { self.new.sizes ≡ self.old.sizes }
+    {
+        for i in 0..self.sizes.parcels {
+            parcel_line(&mut self.lines, i).ok_or((Refusal::Line, i + 2))?;
+        }
+        Ok(())
     }
-    Ok(())
-}
 
-// Whether all lines after the first are right, and nothing follows them; refuses at the first that is not.
-pub(super) fn check_lines<K: Ranking>(mut lines: Lines<'_>, sizes: Sizes) -> Result<(), Fault>
-    requires few_parcels { sizes.parcels ≤ 1024 }
-    requires few_entries { sizes.entries ≤ 16384 }
-    ensures { elim result [ Ok _ ↦ AllPassed K.Ranking.fields sizes (left lines.entry) | Err f ↦ ((k : ℕ) × (f ≡ (1, k + 1)) × ((bs : List ℕ) → Begins (sizes_row sizes ∷ []) bs (left lines.entry) → WrongAfter K.Ranking.fields sizes k bs)) ] }
-{
-    check_parcels(&mut lines, sizes.parcels)?;
-    check_entries::<K>(&mut lines, sizes)?;
-    if !lines.is_at_end() {
-        return Err((LINE, sizes.parcels + sizes.entries + 2));
+    // Passes the lines of all entries; refuses at the first that is wrong or missing.
+    fn check_entries<K: Ranking>(&mut self) -> Result<(), Fault>
+        ensures lines { elim result [ Ok _ ↦ ((xs : List Entry) × (length xs ≡ self.old.sizes.entries) × Entries K.Ranking.fields self.old.sizes.parcels xs (left self.old.lines) (left self.new.lines)) | Err f ↦ ((k : ℕ) × (k < self.old.sizes.entries) × (f ≡ (Refusal.Line, self.old.sizes.parcels + k + 2)) × NoEntry K.Ranking.fields self.old.sizes.parcels k (left self.old.lines)) ] }
+        ensures sizes { self.new.sizes ≡ self.old.sizes }
+    {
+        let sizes = self.sizes;
+        let mut low = 0;
+        for j in 0..sizes.entries {
+            let entry = entry_line::<K>(&mut self.lines, sizes.parcels, low).ok_or((
+                Refusal::Line,
+                sizes.parcels + j + 2,
+            ))?;
+            low = entry.row;
+        }
+        Ok(())
     }
-    Ok(())
+
+    // Whether all lines are right, and nothing follows them; refuses at the first that is not.
+    pub(super) fn check<K: Ranking>(mut self) -> Result<(), Fault>
+        ensures { elim result [ Ok _ ↦ AllPassed K.Ranking.fields self.entry.sizes (left self.entry.lines) | Err f ↦ ((k : ℕ) × (f ≡ (Refusal.Line, k + 1)) × ((bs : List ℕ) → Begins (sizes_row self.entry.sizes ∷ []) bs (left self.entry.lines) → WrongAfter K.Ranking.fields self.entry.sizes k bs)) ] }
+    {
+        self.check_parcels()?;
+        self.check_entries::<K>()?;
+        if !self.lines.is_at_end() {
+            return Err((Refusal::Line, self.sizes.parcels + self.sizes.entries + 2));
+        }
+        Ok(())
+    }
 }

@@ -1,35 +1,14 @@
-ghost use Rattle.std.specs.Prelude.{◌≡◌, ℕ, ◌+◌, ◌<◌, ◌≤◌, List, map, length, slice_index};
+ghost use Rattle.std.specs.Prelude.{◌≡◌, ℕ, ◌+◌, ◌<◌, ◌≤◌, List, length, slice_index};
 ghost use Rattle.text.specs.Parts.{left};
 ghost use Rattle.reading.specs.declared.rows.Parcel.{Parcel};
-ghost use Rattle.reading.specs.Listing.{Entry, key_of};
-ghost use Rattle.reading.specs.Outcome.{laid, starts_of};
+ghost use Rattle.reading.specs.Listing.{Entry};
+ghost use Rattle.reading.specs.Outcome.{lent, SameSlices, Room, with_parcels, with_entries};
 ghost use Rattle.reading.specs.Passing.{Parcels, Entries};
 
-use super::Sizes;
+use super::TablesMut;
+use super::checking::Body;
 use super::rows::{entry_line, parcel_line};
 use ranking::Ranking;
-use text::Lines;
-
-// Writes the parcels' stores and editions; their lines were passed before.
-pub(super) fn fill_parcels(
-    lines: &mut Lines<'_>,
-    parcels: u32,
-    stores: &mut [u32],
-    editions: &mut [u16],
-)
-    requires room_for_stores { parcels ≤ length stores.old }
-    requires room_for_editions { parcels ≤ length editions.old }
-    requires passed { (ps : List Parcel) × (rest : List ℕ) × (length ps ≡ parcels) × Parcels ps (left lines.old) rest }
-    ensures { (ps : List Parcel) × (length ps ≡ parcels) × Parcels ps (left lines.old) (left lines.new) × (stores.new ≡ laid (map (λ p. p.store) ps) stores.old) × (editions.new ≡ laid (map (λ p. p.edition) ps) editions.old) }
-{
-    for i in 0..parcels {
-        let Some(parcel) = parcel_line(lines, i) else {
-            unreachable();
-        };
-        stores[i as usize] = parcel.store;
-        editions[i as usize] = parcel.edition;
-    }
-}
 
 // Writes the value into the places from `from` up to, not including, `to`.
 fn mark(starts: &mut [u32], from: u32, to: u32, value: u32)
@@ -39,38 +18,50 @@ fn mark(starts: &mut [u32], from: u32, to: u32, value: u32)
     ensures within { (k : ℕ) → from ≤ k → k < to → slice_index starts.new k ≡ value }
     ensures after { (k : ℕ) → to ≤ k → slice_index starts.new k ≡ slice_index starts.old k }
 {
-    for row in from..to {
-        starts[row as usize] = value;
-    }
+    starts[from as usize..to as usize].fill(value);
 }
 
-// Writes the starts of all rows, and the entries' other parcels and keys; their lines were passed before.
-pub(super) fn fill_entries<K: Ranking>(
-    lines: &mut Lines<'_>,
-    sizes: Sizes,
-    starts: &mut [u32],
-    others: &mut [u32],
-    keys: &mut [K],
-)
-    requires few { sizes.parcels ≤ 1024 }
-    requires room_for_starts { sizes.parcels + 1 ≤ length starts.old }
-    requires room_for_others { sizes.entries ≤ length others.old }
-    requires room_for_keys { sizes.entries ≤ length keys.old }
-    requires passed { (xs : List Entry) × (rest : List ℕ) × (length xs ≡ sizes.entries) × Entries K.Ranking.fields sizes.parcels xs (left lines.old) rest }
-    ensures { (xs : List Entry) × (length xs ≡ sizes.entries) × Entries K.Ranking.fields sizes.parcels xs (left lines.old) (left lines.new) × (starts.new ≡ laid (starts_of sizes.parcels xs) starts.old) × (others.new ≡ laid (map (λ x. x.other) xs) others.old) × (keys.new ≡ laid (map (key_of K.Ranking.made) xs) keys.old) }
-{
-    let mut low = 0;
-    // the rows below this one have their start
-    let mut marked = 0;
-    for j in 0..sizes.entries {
-        let Some(entry) = entry_line::<K>(lines, sizes.parcels, low) else {
-            unreachable();
-        };
-        low = entry.row;
-        mark(starts, marked, low + 1, j);
-        marked = low + 1;
-        others[j as usize] = entry.other;
-        keys[j as usize] = entry.key;
+impl<K: Ranking> TablesMut<'_, K> {
+    // Writes the parcels' stores and editions; their lines were passed before.
+    pub(super) fn fill_parcels(&mut self, body: &mut Body<'_>)
+        requires room { Room body.old.sizes (lent self.old) }
+        requires passed { (ps : List Parcel) × (rest : List ℕ) × (length ps ≡ body.old.sizes.parcels) × Parcels ps (left body.old.lines) rest }
+        ensures parcels { (ps : List Parcel) × (length ps ≡ body.old.sizes.parcels) × Parcels ps (left body.old.lines) (left body.new.lines) × (lent self.new ≡ with_parcels ps (lent self.old)) }
+        ensures sizes { body.new.sizes ≡ body.old.sizes }
+        ensures slices { SameSlices self.old self.new }
+    {
+        // `i` is the number that a parcel's line names, and its place in two tables
+        for i in 0..body.sizes.parcels {
+            let Some(parcel) = parcel_line(&mut body.lines, i) else {
+                unreachable();
+            };
+            self.stores[i as usize] = parcel.store;
+            self.editions[i as usize] = parcel.edition;
+        }
     }
-    mark(starts, marked, sizes.parcels + 1, sizes.entries);
+
+    // Writes the starts of all rows, and the entries' other parcels and keys; their lines were passed before.
+    pub(super) fn fill_entries(&mut self, body: &mut Body<'_>)
+        requires room { Room body.old.sizes (lent self.old) }
+        requires passed { (xs : List Entry) × (rest : List ℕ) × (length xs ≡ body.old.sizes.entries) × Entries K.Ranking.fields body.old.sizes.parcels xs (left body.old.lines) rest }
+        ensures entries { (xs : List Entry) × (length xs ≡ body.old.sizes.entries) × Entries K.Ranking.fields body.old.sizes.parcels xs (left body.old.lines) (left body.new.lines) × (lent self.new ≡ with_entries K.Ranking.made body.old.sizes.parcels xs (lent self.old)) }
+        ensures slices { SameSlices self.old self.new }
+    {
+        let sizes = body.sizes;
+        let mut low = 0;
+        // the rows below this one have their start
+        let mut marked = 0;
+        // `j` is where a row may start, and an entry's place in two tables
+        for j in 0..sizes.entries {
+            let Some(entry) = entry_line::<K>(&mut body.lines, sizes.parcels, low) else {
+                unreachable();
+            };
+            low = entry.row;
+            mark(self.starts, marked, low + 1, j);
+            marked = low + 1;
+            self.others[j as usize] = entry.other;
+            self.keys[j as usize] = entry.key;
+        }
+        mark(self.starts, marked, sizes.parcels + 1, sizes.entries);
+    }
 }

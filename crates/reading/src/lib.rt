@@ -3,11 +3,10 @@
 
 ghost use Rattle.std.specs.Prelude.{Decides};
 ghost use Rattle.reading.specs.Examples.{Examples};
-ghost use Rattle.reading.specs.Outcome.{tables, Within, Room, Read};
+ghost use Rattle.reading.specs.Outcome.{lent, SameSlices, Within, Room, Read};
 
-use checking::check_lines;
-use faults::{Fault, LINE, ROOM, SIZE};
-use filling::{fill_entries, fill_parcels};
+use checking::Body;
+use faults::{Fault, Refusal};
 use ranking::Ranking;
 use rows::first_line;
 use text::Lines;
@@ -24,68 +23,67 @@ const MOST_ENTRIES: u32 = 16_384;
 const MOST_STORES: u32 = 64;
 
 /// How many parcels, entries and stores a sheet has.
-#[derive(Clone, Copy)]
+#[derive(Clone, Copy, Debug, PartialEq, Eq)]
 pub struct Sizes {
     pub parcels: u32,
     pub entries: u32,
     pub stores: u32,
 }
 
-fn is_within(sizes: Sizes) -> bool
-    ensures { Decides result (Within sizes) }
-{
-    sizes.parcels <= MOST_PARCELS
-        && sizes.entries <= MOST_ENTRIES
-        && 1 <= sizes.stores
-        && sizes.stores <= MOST_STORES
+impl Sizes {
+    fn is_within(self) -> bool
+        ensures { Decides result (Within self) }
+    {
+        self.parcels <= MOST_PARCELS
+            && self.entries <= MOST_ENTRIES
+            && (1..=MOST_STORES).contains(&self.stores)
+    }
 }
 
-fn has_room<K>(
-    sizes: Sizes,
-    starts: &[u32],
-    others: &[u32],
-    keys: &[K],
-    stores: &[u32],
-    editions: &[u16],
-) -> bool
-    ensures { Decides result (Room sizes (tables starts.now others.now keys.now stores.now editions.now)) }
-{
-    let parcels = sizes.parcels as usize;
-    let entries = sizes.entries as usize;
-    parcels < starts.len()
-        && entries <= others.len()
-        && entries <= keys.len()
-        && parcels <= stores.len()
-        && parcels <= editions.len()
+/// The tables of a sheet, lent to be filled. They may be longer than the sheet needs.
+#[derive(Drop)]
+pub struct TablesMut<'a, K> {
+    pub starts: &'a mut [u32],
+    pub others: &'a mut [u32],
+    pub keys: &'a mut [K],
+    pub stores: &'a mut [u32],
+    pub editions: &'a mut [u16],
+}
+
+impl<K> TablesMut<'_, K> {
+    fn has_room(&self, sizes: Sizes) -> bool
+        ensures { Decides result (Room sizes (lent self.now)) }
+    {
+        let parcels = sizes.parcels as usize;
+        let entries = sizes.entries as usize;
+        parcels < self.starts.len()
+            && entries <= self.others.len()
+            && entries <= self.keys.len()
+            && parcels <= self.stores.len()
+            && parcels <= self.editions.len()
+    }
 }
 
 /// Reads a sheet's text into the tables, in two passes: they are written only when all is right, and only in the places needed.
 ///
-/// Refuses, in this order: a first line that has not the form (`LINE` at 1), sizes outside the limits (`SIZE` at 0), a table that is
-/// too short for them (`ROOM` at 0), and the first other line that is wrong, missing or too many (`LINE` at its number).
-pub fn read<K: Ranking>(
-    text: &[u8],
-    starts: &mut [u32],
-    others: &mut [u32],
-    keys: &mut [K],
-    stores: &mut [u32],
-    editions: &mut [u16],
-) -> Result<Sizes, Fault>
-    ensures { Read K.Ranking.made K.Ranking.fields text.now (tables starts.old others.old keys.old stores.old editions.old) result (tables starts.new others.new keys.new stores.new editions.new) }
+/// Refuses, in this order: a first line that has not the form (`Line` at 1), sizes outside the limits (`Size` at 0), a table that is
+/// too short for them (`Room` at 0), and the first other line that is wrong, missing or too many (`Line` at its number).
+pub fn read<K: Ranking>(text: &[u8], tables: &mut TablesMut<'_, K>) -> Result<Sizes, Fault>
+    ensures reads { Read K.Ranking.made K.Ranking.fields text.now (lent tables.old) result (lent tables.new) }
+    ensures slices { SameSlices tables.old tables.new }
 {
     let mut lines = Lines::new(text);
-    let Some(sizes) = first_line(&mut lines) else {
-        return Err((LINE, 1));
-    };
-    if !is_within(sizes) {
-        return Err((SIZE, 0));
+    let sizes = first_line(&mut lines).ok_or((Refusal::Line, 1))?;
+    if !sizes.is_within() {
+        return Err((Refusal::Size, 0));
     }
-    if !has_room(sizes, starts, others, keys, stores, editions) {
-        return Err((ROOM, 0));
+    if !tables.has_room(sizes) {
+        return Err((Refusal::Room, 0));
     }
-    check_lines::<K>(lines, sizes)?;
-    fill_parcels(&mut lines, sizes.parcels, stores, editions);
-    fill_entries(&mut lines, sizes, starts, others, keys);
+    let mut body = Body { lines, sizes };
+    body.check::<K>()?;
+    tables.fill_parcels(&mut body);
+    tables.fill_entries(&mut body);
     Ok(sizes)
 }
 

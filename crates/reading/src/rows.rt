@@ -10,8 +10,6 @@ use super::Sizes;
 use ranking::Ranking;
 use text::{Lines, numbers};
 
-const TOP_EDITION: u32 = 65_535;
-
 /// A parcel as a line lists it.
 #[derive(Clone, Copy)]
 pub struct Parcel {
@@ -31,16 +29,14 @@ pub struct EntryLine<K> {
 fn next_numbers<const N: usize>(lines: &mut Lines<'_>) -> Option<[u32; N]>
     ensures { elim result [ Some vs ↦ Begins (vs ∷ []) (left lines.old) (left lines.new) × (length vs ≡ N) | None ↦ ((vs rest : List ℕ) → length vs ≡ N → Begins (vs ∷ []) (left lines.old) rest → ⊥) ] }
 {
-    let line = lines.next_line()?;
-    numbers(line)
+    numbers(lines.next_line()?)
 }
 
 // The sizes in the next line; none where it has not the form.
 pub(super) fn first_line(lines: &mut Lines<'_>) -> Option<Sizes>
     ensures { elim result [ Some z ↦ Begins (sizes_row z ∷ []) (left lines.old) (left lines.new) | None ↦ ((z : Sizes) (rest : List ℕ) → Begins (sizes_row z ∷ []) (left lines.old) rest → ⊥) ] }
 {
-    let values = next_numbers::<3>(lines)?;
-    let [parcels, entries, stores] = values;
+    let [parcels, entries, stores] = next_numbers::<3>(lines)?;
     Some(Sizes {
         parcels,
         entries,
@@ -52,15 +48,12 @@ pub(super) fn first_line(lines: &mut Lines<'_>) -> Option<Sizes>
 pub(super) fn parcel_line(lines: &mut Lines<'_>, number: u32) -> Option<Parcel>
     ensures { elim result [ Some p ↦ FitParcel p × Begins (parcel_row number p ∷ []) (left lines.old) (left lines.new) | None ↦ ((p : Parcel) (rest : List ℕ) → FitParcel p → Begins (parcel_row number p ∷ []) (left lines.old) rest → ⊥) ] }
 {
-    let values = next_numbers::<3>(lines)?;
-    let [named, store, edition] = values;
-    if named != number || edition > TOP_EDITION {
+    let [named, store, edition] = next_numbers::<3>(lines)?;
+    if named != number {
         return None;
     }
-    Some(Parcel {
-        store,
-        edition: edition as u16,
-    })
+    let edition = u16::try_from(edition).ok()?;
+    Some(Parcel { store, edition })
 }
 
 // The four numbers of an entry in the next line; of a key with one field the last is 0.
@@ -69,12 +62,11 @@ fn entry_numbers(lines: &mut Lines<'_>, count: usize) -> Option<[u32; 4]>
     ensures { elim result [ Some vs ↦ EntryNumbers count (left lines.old) (left lines.new) vs | None ↦ ((x : Entry) (rest : List ℕ) → length x.fields ≡ count → Begins (entry_row x ∷ []) (left lines.old) rest → ⊥) ] }
 {
     if count == 1 {
-        let values = next_numbers::<3>(lines)?;
-        let [row, other, first] = values;
-        return Some([row, other, first, 0]);
+        let [row, other, first] = next_numbers::<3>(lines)?;
+        Some([row, other, first, 0])
+    } else {
+        next_numbers(lines)
     }
-    let values = next_numbers::<4>(lines)?;
-    Some(values)
 }
 
 // The entry in the next line, in the row of one of the parcels and not below the row `low`; none where the line has not the form.
@@ -85,8 +77,7 @@ pub(super) fn entry_line<K: Ranking>(
 ) -> Option<EntryLine<K>>
     ensures { elim result [ Some line ↦ ReadEntry K.Ranking.made K.Ranking.fields parcels low (left lines.old) (left lines.new) line | None ↦ ((x : Entry) (rest : List ℕ) → FitEntry K.Ranking.fields parcels x → low ≤ x.row → Begins (entry_row x ∷ []) (left lines.old) rest → ⊥) ] }
 {
-    let values = entry_numbers(lines, K::field_count())?;
-    let [row, other, first, second] = values;
+    let [row, other, first, second] = entry_numbers(lines, K::field_count())?;
     if row >= parcels || row < low {
         return None;
     }

@@ -3,9 +3,8 @@
 
 #[cfg(test)]
 mod tests {
-    use faults::Fault;
-    use ranking::{Cents, Staged};
-    use reading::read;
+    use ranking::{Cents, Ranking, Staged};
+    use reading::{TablesMut, read};
     use std::test::Fail;
     use text::{Fields, Lines};
 
@@ -13,40 +12,30 @@ mod tests {
     const ROW: &str =
         "4,6,2\n0,0,21\n1,0,21\n2,1,21\n3,1,22\n0,1,5\n1,0,5\n1,2,9\n2,1,9\n2,3,7\n3,2,7\n";
 
-    // What refuses a text of cents, with room for four parcels and six entries; none where it is read.
-    fn refusal(text: &str) -> Option<Fault> {
-        let mut starts = [0; 5];
-        let mut others = [0; 6];
-        let mut keys = [Cents(0); 6];
-        let mut stores = [0; 4];
-        let mut editions = [0; 4];
-        let answer = read(
-            text.as_bytes(),
-            &mut starts,
-            &mut others,
-            &mut keys,
-            &mut stores,
-            &mut editions,
-        );
-        answer.err()
+    // The number and the place of what refuses a text; none where it is read into the tables.
+    fn refused<K: Ranking>(text: &str, mut tables: TablesMut<'_, K>) -> Option<(u32, u32)> {
+        let (refusal, place) = read(text.as_bytes(), &mut tables).err()?;
+        Some((u32::from(refusal), place))
     }
 
-    // The same of a text of staged keys.
-    fn staged_refusal(text: &str) -> Option<Fault> {
-        let mut starts = [0; 5];
-        let mut others = [0; 6];
-        let mut keys = [Staged { band: 0, cents: 0 }; 6];
-        let mut stores = [0; 4];
-        let mut editions = [0; 4];
-        let answer = read(
-            text.as_bytes(),
-            &mut starts,
-            &mut others,
-            &mut keys,
-            &mut stores,
-            &mut editions,
-        );
-        answer.err()
+    // The same with room for four parcels and six entries, and for so many keys.
+    fn refusal_by<K: Ranking>(text: &str, keys: &mut [K]) -> Option<(u32, u32)> {
+        let tables = TablesMut {
+            starts: &mut [0; 5],
+            others: &mut [0; 6],
+            keys,
+            stores: &mut [0; 4],
+            editions: &mut [0; 4],
+        };
+        refused(text, tables)
+    }
+
+    fn refusal(text: &str) -> Option<(u32, u32)> {
+        refusal_by(text, &mut [Cents(0); 6])
+    }
+
+    fn staged_refusal(text: &str) -> Option<(u32, u32)> {
+        refusal_by(text, &mut [Staged { band: 0, cents: 0 }; 6])
     }
 
     // The same of the row of parcels, with so much room in each table.
@@ -56,21 +45,15 @@ mod tests {
         keys: usize,
         stores: usize,
         editions: usize,
-    ) -> Option<Fault> {
-        let mut table = [0; 8];
-        let mut more = [0; 8];
-        let mut all_keys = [Cents(0); 8];
-        let mut all_stores = [0; 8];
-        let mut all_editions = [0; 8];
-        let answer = read(
-            ROW.as_bytes(),
-            &mut table[0..starts.min(8)],
-            &mut more[0..others.min(8)],
-            &mut all_keys[0..keys.min(8)],
-            &mut all_stores[0..stores.min(8)],
-            &mut all_editions[0..editions.min(8)],
-        );
-        answer.err()
+    ) -> Option<(u32, u32)> {
+        let tables = TablesMut {
+            starts: &mut [0; 8][..starts.min(8)],
+            others: &mut [0; 8][..others.min(8)],
+            keys: &mut [Cents(0); 8][..keys.min(8)],
+            stores: &mut [0; 8][..stores.min(8)],
+            editions: &mut [0; 8][..editions.min(8)],
+        };
+        refused(ROW, tables)
     }
 
     #[test]
@@ -227,14 +210,14 @@ mod tests {
         let mut keys = [Cents(9); 7];
         let mut stores = [9; 5];
         let mut editions = [9; 5];
-        let sizes = read(
-            ROW.as_bytes(),
-            &mut starts,
-            &mut others,
-            &mut keys,
-            &mut stores,
-            &mut editions,
-        );
+        let mut tables = TablesMut {
+            starts: &mut starts,
+            others: &mut others,
+            keys: &mut keys,
+            stores: &mut stores,
+            editions: &mut editions,
+        };
+        let sizes = read(ROW.as_bytes(), &mut tables);
         let sizes = sizes.ok().ok_or("refused")?;
         assert_eq!(rt; (sizes.parcels, sizes.entries, sizes.stores), (4, 6, 2));
         assert_eq!(rt; starts, [0, 1, 3, 5, 6, 9]);
@@ -259,14 +242,14 @@ mod tests {
         let mut stores = [9; 4];
         let mut editions = [9; 4];
         let text = "4,2,3\n0,2,1\n1,0,65535\n2,1,0\n3,0,7\n1,3,2,900\n1,2,0,4294967295\n";
-        let answer = read(
-            text.as_bytes(),
-            &mut starts,
-            &mut others,
-            &mut keys,
-            &mut stores,
-            &mut editions,
-        );
+        let mut tables = TablesMut {
+            starts: &mut starts,
+            others: &mut others,
+            keys: &mut keys,
+            stores: &mut stores,
+            editions: &mut editions,
+        };
+        let answer = read(text.as_bytes(), &mut tables);
         assert_eq!(rt; answer.err(), None);
         assert_eq!(rt; starts, [0, 0, 2, 2, 2]);
         assert_eq!(rt; others, [3, 2]);
@@ -287,15 +270,18 @@ mod tests {
         let mut stores = [9; 2];
         let mut editions = [9; 2];
         let text = "2,2,1\n0,0,21\n1,0,21\n0,1,5\n1,0,x\n";
-        let answer = read(
-            text.as_bytes(),
-            &mut starts,
-            &mut others,
-            &mut keys,
-            &mut stores,
-            &mut editions,
-        );
-        assert_eq!(rt; answer.err(), Some((1, 5)));
+        let mut tables = TablesMut {
+            starts: &mut starts,
+            others: &mut others,
+            keys: &mut keys,
+            stores: &mut stores,
+            editions: &mut editions,
+        };
+        let answer = read(text.as_bytes(), &mut tables);
+        let numbers = answer
+            .err()
+            .map(|(refusal, place)| (u32::from(refusal), place));
+        assert_eq!(rt; numbers, Some((1, 5)));
         assert_eq!(rt; starts, [9; 3]);
         assert_eq!(rt; others, [9; 2]);
         assert_eq!(rt; [keys[0].0, keys[1].0], [9; 2]);

@@ -22,6 +22,11 @@ pub record NextLine (was : Lines) (line : Part) (is : Lines) : Type 0 where
   pub passed : is.pos ≡ was.pos + length line.bytes.now + 1
   pub counted : is.number ≡ was.number + 1
 
+-- what is handed out of a text: its next line, or none where no byte 10 is left
+abbrev pub LineTaken : Lines → Option Part → Lines → Type 0
+LineTaken was (Some line) is = NextLine was line is
+LineTaken was None is = Free 10 (left was) × (is ≡ was)
+
 -- the part is parted at its first comma (byte 44) into a field and what follows; a place stays at the largest number
 pub record Parted (part field after : Part) : Type 0 where
   pub bytes : part.bytes.now ≡ field.bytes.now ++ 44 ∷ after.bytes.now
@@ -35,3 +40,8 @@ pub record Parted (part field after : Part) : Type 0 where
 abbrev pub NextField : Option Part → Option Part → Option Part → Type 0
 NextField None field rest = (field ≡ None) × (rest ≡ None)
 NextField (Some part) field rest = (Free 44 part.bytes.now × (field ≡ Some part) × (rest ≡ None)) ⊎ ((front after : Part) × Parted part front after × (field ≡ Some front) × (rest ≡ Some after))
+
+-- the bytes that fields are still made of
+abbrev pub unread : Option Part → ℕ
+unread None = 0
+unread (Some part) = length part.bytes.now + 1

@@ -10,7 +10,7 @@ pub use decimal::{number, worked_out};
 pub use reader::numbers;
 
 /// A part of a text: its bytes, the place in the text at which they begin, from 0, and the number of its line, from 1.
-#[derive(Clone, Copy)]
+#[derive(Clone, Copy, Debug, PartialEq, Eq)]
 pub struct Part<'a> {
     pub bytes: &'a [u8],
     pub place: usize,

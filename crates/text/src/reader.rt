@@ -1,5 +1,6 @@
 ghost use Rattle.std.specs.Prelude.{◌≡◌, ℕ, ◌<◌, List, [], length, take, Some, None, Decides, slice_index};
-ghost use Rattle.text.specs.Parts.{Free, left, NextLine, NextField};
+ghost use Rattle.std.specs.Iterator.{at_most};
+ghost use Rattle.text.specs.Parts.{Free, left, LineTaken, NextField, unread};
 ghost use Rattle.text.specs.Rows.{Values, OnlyValues};
 
 use super::{Fields, Lines, Part, number};
@@ -8,12 +9,7 @@ use super::{Fields, Lines, Part, number};
 fn find(bytes: &[u8], byte: u8) -> Option<usize>
     ensures { elim result [ Some i ↦ (i < length bytes.now) × (slice_index bytes.now i ≡ byte) × Free byte (take i bytes.now) | None ↦ Free byte bytes.now ] }
 {
-    for (i, b) in bytes.iter().enumerate() {
-        if *b == byte {
-            return Some(i);
-        }
-    }
-    None
+    bytes.iter().position(|b| *b == byte)
 }
 
 impl<'a> Lines<'a> {
@@ -32,12 +28,12 @@ impl<'a> Lines<'a> {
 
     /// The next line, without the byte 10 that ends it; none where no byte 10 is left.
     pub fn next_line(&mut self) -> Option<Part<'a>>
-        ensures { elim result [ Some line ↦ NextLine self.old line self.new | None ↦ Free 10 (left self.old) × (self.new ≡ self.old) ] }
+        ensures { LineTaken self.old result self.new }
     {
         let rest = &self.text[self.pos..];
         let end = find(rest, b'\n')?;
         let line = Part {
-            bytes: &rest[0..end],
+            bytes: &rest[..end],
             place: self.pos,
             line: self.number + 1,
         };
@@ -51,6 +47,18 @@ impl<'a> Lines<'a> {
         ensures { Decides result (left self.now ≡ []) }
     {
         self.pos == self.text.len()
+    }
+}
+
+impl<'a> Iterator for Lines<'a> {
+    type Item = Part<'a>;
+
+    ghost next_gives = { LineTaken };
+
+    ghost remaining = { λ lines. at_most (length (left lines)) };
+
+    fn next(&mut self) -> Option<Part<'a>> {
+        self.next_line()
     }
 }
 
@@ -72,12 +80,11 @@ impl<'a> Fields<'a> {
                 self.rest = Some(Part {
                     bytes: &part.bytes[end + 1..],
                     place: part.place.saturating_add(end + 1),
-                    line: part.line,
+                    ..part
                 });
                 Some(Part {
-                    bytes: &part.bytes[0..end],
-                    place: part.place,
-                    line: part.line,
+                    bytes: &part.bytes[..end],
+                    ..part
                 })
             }
             None => {
@@ -88,15 +95,27 @@ impl<'a> Fields<'a> {
     }
 }
 
+impl<'a> Iterator for Fields<'a> {
+    type Item = Part<'a>;
+
+    ghost next_gives = { λ was field is. NextField was.rest field is.rest };
+
+    ghost remaining = { λ fields. at_most (unread fields.rest) };
+
+    fn next(&mut self) -> Option<Part<'a>> {
+        self.next_field()
+    }
+}
+
 /// The numbers of a line that has just `N` fields, each a number; none where it has not.
 pub fn numbers<const N: usize>(line: Part<'_>) -> Option<[u32; N]>
     ensures { elim result [ Some vs ↦ (length vs ≡ N) × OnlyValues vs line.entry.bytes.now | None ↦ ((vs : List ℕ) → length vs ≡ N → Values vs line.entry.bytes.now → ⊥) ] }
 {
     let mut fields = Fields::new(line);
     let mut values = [0; N];
-    for i in 0..N {
+    for value in &mut values {
         let field = fields.next_field()?;
-        values[i] = number(field.bytes)?;
+        *value = number(field.bytes)?;
     }
     match fields.next_field() {
         Some(_) => None,

@@ -1,12 +1,6 @@
-use Rattle.std.proofs.Common.{◌+◌, ap, ◌∙◌, arith}
-use Rattle.std.proofs.ByRecursion.{All-get_or}
-use Rattle.std.proofs.lemmas.List.{take_all}
-use Rattle.text.specs.Numbers.{Digit, value}
+use Rattle.std.proofs.Common.{◌+◌, arith}
 use Rattle.text.proofs.Worth.{value_grows, value_more}
 use Rattle.text.proofs.decimal.value_of.Goals as goal
-
-pub overflow_sub-b : goal.overflow_sub-b
-overflow_sub-b c = (All-get_or Digit c.args.digits.now c.loop-b.b-index 0 (omega arith) c.requires).0
 
 pub returns-in_err-checked_mul : goal.returns-in_err-checked_mul
 returns-in_err-checked_mul c =
@@ -36,6 +30,3 @@ loop-b-preserved c =
     let tens = c.in_ok-checked_mul.ensures in
     let sum = c.in_ok-value.ensures in
     omega arith
-
-pub returns : goal.returns
-returns c = c.loop-b.invariant ∙ ap value (take_all c.loop-b.b-index c.args.digits.now (omega arith))
