@@ -3,7 +3,7 @@ use Rattle.std.proofs.Common.{◌≡◌, ℕ, ◌+◌, ◌<◌, ◌≤◌, Bool,
 use Rattle.std.proofs.lemmas.Bool.{both_ways, lt-ltb, cases_eq}
 use Rattle.ranking.specs.Law.{Lawful, lifted}
 use Rattle.ranking.proofs.Lifted.{lifted_lawful}
-use Rattle.sheet.specs.Graph.{Graph, row_start, row_end, other, key, InRow}
+use Rattle.sheet.specs.Graph.{Graph, other, key, InRow}
 use Rattle.sheet.specs.Check.{Sound, Alike}
 use Rattle.pairing.specs.Pairs.{joint}
 use Rattle.pairing.specs.Above.{above, entry_above}
@@ -91,13 +91,13 @@ module _ {K : Type 0} (atleast : K → K → Bool) (laws : Lawful atleast) (t : 
     stays p None r answer e sofar = absurd (both_ways r e answer)
     stays p (Some q) r answer e sofar = kept p q (sym answer ∙ e) sofar
 
-    pub nothing_yet : (p : ℕ) → p ≤ row_start t u → Sofar atleast t stands u p None
-    nothing_yet p start r there less = absurd (omega (arith, there.from))
+    pub nothing_yet : (p : ℕ) → ((r : ℕ) → InRow t u r → p ≤ r) → Sofar atleast t stands u p None
+    nothing_yet p start r there less = absurd (omega (arith, start r there, less))
 
-    -- at the row's end the choice is made
-    pub all_seen : (p : ℕ) (top : Option ℕ) → row_end t u ≤ p → Sofar atleast t stands u p top → Choice atleast t stands u top
-    all_seen p None end sofar = λ r there. sofar r there (omega (arith, there.to))
-    all_seen p (Some q) end sofar = record { within = sofar.within; candidate = sofar.candidate; over = λ r there. sofar.over r there (omega (arith, there.to)) }
+    -- where the whole row has been seen the choice is made
+    pub all_seen : (p : ℕ) (top : Option ℕ) → ((r : ℕ) → InRow t u r → r < p) → Sofar atleast t stands u p top → Choice atleast t stands u top
+    all_seen p None seen sofar = λ r there. sofar r there (seen r there)
+    all_seen p (Some q) seen sofar = record { within = sofar.within; candidate = sofar.candidate; over = λ r there. sofar.over r there (seen r there) }
 
 -- where the two keys of every pair rank alike, the top entry's pair stands above the pairs of the other candidates
 pub top_above : {K : Type 0} (atleast : K → K → Bool) (laws : Lawful atleast) (t : Graph K) (sound : Sound t) (same : Alike atleast t) (stands : ℕ → Bool) (u p : ℕ)

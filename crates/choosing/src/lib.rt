@@ -11,6 +11,8 @@ use ranking::Ranking;
 use sheet::Sheet;
 
 /// Entries of a sheet that may be chosen.
+///
+/// It is a trait, since a closure would bring a condition on when it may be called, and this may be asked of any place.
 pub trait Candidates {
     ghost stands: { Self → ℕ → Bool };
 
@@ -20,14 +22,12 @@ pub trait Candidates {
 }
 
 // Whether the key at `p` is at least as high as the key at `top`, if there is one.
+#[tactic(auto, using(std::proofs::lemmas::Option::slice_get_read))]
 fn no_lower<K: Ranking>(keys: &[K], p: usize, top: Option<usize>) -> bool
     requires { (p < length keys.now) × (IfSome top (λ q. q < length keys.now)) }
     ensures { MatchOption top (result ≡ true) (λ q. result ≡ lifted K.Ranking.atleast (slice_get keys.now p) (slice_get keys.now q)) }
 {
-    match top {
-        None => true,
-        Some(q) => keys[p].at_least(keys[q]),
-    }
+    top.is_none_or(|q| keys[p].at_least(keys[q]))
 }
 
 /// The candidate of the parcel's row that stands above the row's other candidates, by its place among the entries:
@@ -41,13 +41,11 @@ pub fn top_entry<K: Ranking, C: Candidates>(
 ) -> Option<usize>
     ensures { Choice K.Ranking.atleast (held sheet.now) (C.Candidates.stands candidates.now) parcel result }
 {
-    let tables = sheet.tables();
-    if parcel >= tables.stores.len() {
-        return None;
-    }
+    let keys = sheet.tables().keys;
     let mut top = None;
-    for p in tables.starts[parcel] as usize..tables.starts[parcel + 1] as usize {
-        if candidates.stands_at(p) && no_lower(tables.keys, p, top) {
+    // a loop, since the closure of a `reduce` would not know that the places it is given stand in the row
+    for p in sheet.row(parcel) {
+        if candidates.stands_at(p) && no_lower(keys, p, top) {
             top = Some(p);
         }
     }

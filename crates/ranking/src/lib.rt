@@ -6,7 +6,11 @@ ghost use Rattle.ranking.specs.Law.{Lawful};
 ghost use Rattle.ranking.specs.Kinds.{cents_atleast, staged_atleast, cents_key, staged_key};
 ghost use Rattle.std.proofs.Common.{rules};
 
+use std::cmp::Reverse;
+
 /// A kind of key. Two keys rank alike where each is at least as high as the other.
+///
+/// It stands beside `Ord`, since keys that rank alike need not be equal.
 pub trait Ranking: Copy {
     ghost atleast: { Self → Self → Bool };
 
@@ -35,7 +39,7 @@ pub trait Ranking: Copy {
 
 /// Cents: more is higher.
 #[repr(C)]
-#[derive(Clone, Copy)]
+#[derive(Clone, Copy, PartialEq, Eq, Debug)]
 pub struct Cents(pub u32);
 
 impl Ranking for Cents {
@@ -63,7 +67,7 @@ impl Ranking for Cents {
 }
 
 /// A micron band and cents: the smaller band, which is finer wool, is higher; within a band more cents are.
-#[derive(Clone, Copy)]
+#[derive(Clone, Copy, PartialEq, Eq, Debug)]
 pub struct Staged {
     pub band: u32,
     pub cents: u32,
@@ -81,7 +85,7 @@ impl Ranking for Staged {
     ghost short = { Prim.search rules };
 
     fn at_least(self, other: Staged) -> bool {
-        self.band < other.band || (self.band == other.band && self.cents >= other.cents)
+        (self.band, Reverse(self.cents)) <= (other.band, Reverse(other.cents))
     }
 
     fn field_count() -> usize {

@@ -1,23 +1,15 @@
 -- The check passes where nothing is wrong, and only there. Assumes nothing.
-use Rattle.std.proofs.Common.{◌≡◌, ℕ, Bool, true, false, [], ◌∷◌, refl, ◌∙◌, ⊎_elim, arith}
+use Rattle.std.proofs.Common.{◌≡◌, ℕ, Bool, true, [], ◌∷◌, ◌∙◌, ⊎_elim, arith}
 use Rattle.std.proofs.lemmas.Bool.{both_ways}
 use Rattle.sheet.specs.Graph.{Graph, parcels, InRow, sized, fitted, rises, mirrored, sides_alike, one_edition}
 use Rattle.sheet.specs.Check.{Passed, Refused, size, table, parcel, entry, ParcelsRight, first_failed, entry_fault}
 
 -- a list of tests has no fault exactly where each holds
 pub none_failed : (a b c d : Bool) → first_failed ((a, 5) ∷ (b, 6) ∷ (c, 7) ∷ (d, 8) ∷ []) ≡ 0 → (a ≡ true) × (b ≡ true) × (c ≡ true) × (d ≡ true)
-none_failed true true true true e = (refl, refl, refl, refl)
-none_failed true true true false e = absurd (omega arith)
-none_failed true true false d e = absurd (omega arith)
-none_failed true false c d e = absurd (omega arith)
-none_failed false b c d e = absurd (omega arith)
+none_failed a b c d e = (grind arith, grind arith, grind arith, grind arith)
 
 all_hold : (a b c d : Bool) → a ≡ true → b ≡ true → c ≡ true → d ≡ true → first_failed ((a, 5) ∷ (b, 6) ∷ (c, 7) ∷ (d, 8) ∷ []) ≡ 0
-all_hold true true true true _ _ _ _ = refl
-all_hold true true true false _ _ _ e = absurd (both_ways false refl e)
-all_hold true true false d _ _ e _ = absurd (both_ways false refl e)
-all_hold true false c d _ e _ _ = absurd (both_ways false refl e)
-all_hold false b c d e _ _ _ = absurd (both_ways false refl e)
+all_hold a b c d e f g h = grind arith
 
 module _ {K : Type 0} (atleast : K → K → Bool) (t : Graph K) where
   pub passes : sized t ≡ true → fitted t ≡ true → ParcelsRight t (parcels t) → ((v q : ℕ) → InRow t v q → entry_fault atleast t v q ≡ 0) → Passed atleast t

@@ -1,5 +1,7 @@
 -- What the check answers: the conditions of a checked sheet, and which refusal comes. Assumes nothing.
 use Rattle.std.specs.Prelude.{◌≡◌, ℕ, ◌<◌, Bool, true, false, cond, ◌⊎◌, List, [], ◌∷◌, Some, None, Option}
+use Rattle.faults.specs.declared.Refusal.{Refusal}
+use Rattle.faults.specs.Numbers.{number}
 use Rattle.sheet.specs.Graph.{Graph, parcels, InRow, sized, fitted, bare_right, parcel_right, rises, mirrored, sides_alike, one_edition}
 
 -- all that a checked sheet keeps, but for what speaks of the ranking
@@ -30,6 +32,11 @@ first_failed (x ∷ xs) = cond x.0 (first_failed xs) x.1
 abbrev pub entry_fault : {K : Type 0} → (K → K → Bool) → Graph K → ℕ → ℕ → ℕ
 entry_fault atleast t u p = first_failed ((rises t u p, 5) ∷ (mirrored t u p, 6) ∷ (sides_alike atleast t u p, 7) ∷ (one_edition t u p, 8) ∷ [])
 
+-- what the search for an entry's faults answers
+abbrev pub OneFault : {K : Type 0} → (K → K → Bool) → Graph K → ℕ → ℕ → Option Refusal → Type 0
+OneFault atleast t u p None = entry_fault atleast t u p ≡ 0
+OneFault atleast t u p (Some r) = entry_fault atleast t u p ≡ number r
+
 -- every parcel below u is right, and a sheet without parcels is
 pub record ParcelsRight {K : Type 0} (t : Graph K) (u : ℕ) : Type 0 where
   pub bare : bare_right t ≡ true
@@ -58,12 +65,16 @@ pub data Refused {K : Type 0} (atleast : K → K → Bool) (t : Graph K) : ℕ �
   parcel : {u : ℕ} → sized t ≡ true → fitted t ≡ true → FirstParcel t u → Refused atleast t 4 u
   entry : {k p : ℕ} → sized t ≡ true → fitted t ≡ true → ParcelsRight t (parcels t) → FirstWrong atleast t k p → Refused atleast t k p
 
+-- the same of a fault, by its refusal's number and its place
+abbrev pub RefusedWith : {K : Type 0} → (K → K → Bool) → Graph K → Refusal × ℕ → Type 0
+RefusedWith atleast t f = Refused atleast t (number f.0) f.1
+
 -- what the search for a wrong parcel answers
 abbrev pub WrongParcel : {K : Type 0} → Graph K → Option ℕ → Type 0
 WrongParcel t None = ParcelsRight t (parcels t)
 WrongParcel t (Some u) = FirstParcel t u
 
 -- what the search for a wrong entry answers
-abbrev pub WrongEntry : {K : Type 0} → (K → K → Bool) → Graph K → Option (ℕ × ℕ) → Type 0
+abbrev pub WrongEntry : {K : Type 0} → (K → K → Bool) → Graph K → Option (Refusal × ℕ) → Type 0
 WrongEntry atleast t None = (v q : ℕ) → InRow t v q → entry_fault atleast t v q ≡ 0
-WrongEntry atleast t (Some f) = FirstWrong atleast t f.0 f.1
+WrongEntry atleast t (Some f) = FirstWrong atleast t (number f.0) f.1

@@ -1,6 +1,7 @@
 -- A sheet as lists: its rows, the entries in them, and the tests that a checked sheet passes. Assumes nothing.
 use Rattle.std.specs.Prelude.{ℕ, zero, suc, ◌+◌, ◌-◌, ◌<◌, ◌≤◌, Bool, cond, not, ◌&&◌, ◌||◌, List, [], ◌∷◌, length, Some, None, Option, ◌==◌, nat_le, nat_lt, slice_index}
 use Rattle.std.specs.List.{slice_get}
+use Rattle.std.specs.declared.ops.Range.{Range}
 use Rattle.ranking.specs.Law.{alike, lifted}
 
 -- the tables of a sheet, as lists, and its number of stores
@@ -51,9 +52,17 @@ abbrev pub first_place : List ℕ → ℕ → ℕ → ℕ → ℕ
 first_place xs zero p v = p
 first_place xs (suc k) p v = cond (slice_index xs p == v) p (first_place xs k (suc p) v)
 
+-- the first place from p up to q at which v stands
+abbrev pub place_between : List ℕ → ℕ → ℕ → ℕ → Option ℕ
+place_between xs p q v = cond (nat_lt (first_place xs (q - p) p v) q) (Some (first_place xs (q - p) p v)) None
+
 -- the first place of row u that names v; the row's end if there is none
 abbrev pub place_of : {K : Type 0} → Graph K → ℕ → ℕ → ℕ
 place_of t u v = first_place t.others (row_end t u - row_start t u) (row_start t u) v
+
+-- row u as a range of places; an empty one if there is no such parcel
+abbrev pub row : {K : Type 0} → Graph K → ℕ → Range ℕ
+row t u = cond (nat_lt u (parcels t)) (record { start = row_start t u; end = row_end t u }) (record { start = 0; end = 0 })
 
 -- that place, if u is a parcel and its row names v
 abbrev pub entry_between : {K : Type 0} → Graph K → ℕ → ℕ → Option ℕ

@@ -1,8 +1,9 @@
 ghost use Rattle.std.specs.Prelude.{◌≡◌, ℕ, ◌<◌, true};
-ghost use Rattle.sheet.specs.Graph.{InRow, parcels, sized, fitted, bare_right, parcel_right, rises, mirrored, one_edition, no_parcels};
+ghost use Rattle.sheet.specs.Graph.{InRow, parcels, sized, fitted, bare_right, parcel_right, rises, mirrored, one_edition, no_parcels, row};
 ghost use Rattle.sheet.specs.View.{graph};
 
 use crate::tables::Tables;
+use std::ops::Range;
 
 /// A checked sheet: all that does not speak of the ranking is its invariant. That the two keys of a pair rank alike is
 /// what `check` promises of it.
@@ -41,5 +42,13 @@ impl<'a, K: Copy> Sheet<'a, K> {
         ensures { result ≡ self.now.tables }
     {
         self.tables
+    }
+
+    /// The places of row `u` among the entries; none if there is no such parcel.
+    pub fn row(&self, u: usize) -> Range<usize>
+        ensures { result ≡ row (graph self.now.tables) u }
+    {
+        let t = self.tables;
+        if u < t.stores.len() { t.row(u) } else { 0..0 }
     }
 }

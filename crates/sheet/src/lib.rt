@@ -3,8 +3,9 @@
 
 mod checked;
 mod checking;
+mod fitted;
 mod tables;
 
 pub use checked::Sheet;
-pub use checking::{MOST_ENTRIES, MOST_PARCELS, MOST_STORES, check, find_entry};
-pub use tables::Tables;
+pub use checking::{check, find_entry};
+pub use tables::{MOST_ENTRIES, MOST_PARCELS, MOST_STORES, Tables};

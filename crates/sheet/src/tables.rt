@@ -1,3 +1,16 @@
+ghost use Rattle.std.specs.Prelude.{◌≡◌, ◌+◌, ◌<◌, ◌≤◌, true, length, IfSome};
+ghost use Rattle.sheet.specs.Graph.{row_start, row_end, sized, fitted, place_between};
+ghost use Rattle.sheet.specs.View.{graph};
+
+use std::ops::Range;
+
+/// The most parcels of a sheet.
+pub const MOST_PARCELS: usize = 1024;
+/// The most entries of a sheet.
+pub const MOST_ENTRIES: usize = 16384;
+/// The most stores of a sheet.
+pub const MOST_STORES: u32 = 64;
+
 /// The tables of a sheet, lent for reading, and its number of stores.
 #[derive(Clone, Copy)]
 pub struct Tables<'a, K> {
@@ -12,4 +25,51 @@ pub struct Tables<'a, K> {
     /// The edition of each parcel's bands.
     pub editions: &'a [u16],
     pub store_count: u32,
+}
+
+impl<'a, K: Copy> Tables<'a, K> {
+    // Whether the sizes are within the limits.
+    pub(crate) fn sizes_right(&self) -> bool
+        ensures { result ≡ sized (graph self.now) }
+    {
+        self.stores.len() <= MOST_PARCELS
+            && self.others.len() <= MOST_ENTRIES
+            && 1 <= self.store_count
+            && self.store_count <= MOST_STORES
+    }
+
+    // Whether every table has its length.
+    pub(crate) fn lengths_right(&self) -> bool
+        requires { sized (graph self.now) ≡ true }
+        ensures { result ≡ fitted (graph self.now) }
+    {
+        let parcels = self.stores.len();
+        self.starts.len() == parcels + 1
+            && self.keys.len() == self.others.len()
+            && self.editions.len() == parcels
+    }
+
+    // The places of row `u` among the entries.
+    pub(crate) fn row(&self, u: usize) -> Range<usize>
+        requires { u + 1 < length self.now.starts.now }
+        ensures start { result.start ≡ row_start (graph self.now) u }
+        ensures end { result.end ≡ row_end (graph self.now) u }
+    {
+        self.starts[u] as usize..self.starts[u + 1] as usize
+    }
+}
+
+// The first place of `row` at which `v` stands.
+pub(crate) fn find(others: &[u32], row: Range<usize>, v: usize) -> Option<usize>
+    requires { (row.start ≤ row.end) × (row.end ≤ length others.now) }
+    ensures first { result ≡ place_between others.now row.start row.end v }
+    ensures before { IfSome result (λ p. p < row.end) }
+{
+    // a number of the table's width makes for the shorter loop
+    let v = u32::try_from(v).ok()?;
+    let start = row.start;
+    others[row]
+        .iter()
+        .position(|other| *other == v)
+        .map(|i| start + i)
 }

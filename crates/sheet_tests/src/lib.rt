@@ -6,7 +6,7 @@
 mod tests {
     use faults::Fault;
     use ranking::Cents;
-    use reading::read;
+    use reading::{TablesMut, read};
     use sheet::{Sheet, Tables};
 
     // The first `count` places of a table, or all where there are fewer.
@@ -14,28 +14,31 @@ mod tests {
         &table[..table.len().min(count)]
     }
 
+    // The number and the place of a fault.
+    fn numbers((refusal, place): Fault) -> (u32, u32) {
+        (u32::from(refusal), place)
+    }
+
     // What the check answers of these tables; none where they pass.
-    fn refusal(tables: Tables<Cents>) -> Option<Fault> {
-        let mut sheet = Sheet::empty();
-        sheet::check(&mut sheet, tables).err()
+    fn refusal(tables: Tables<Cents>) -> Option<(u32, u32)> {
+        sheet::check(&mut Sheet::empty(), tables).err().map(numbers)
     }
 
     // The same of a text, with room for four parcels and six entries.
-    fn text_refusal(text: &str) -> Option<Fault> {
+    fn text_refusal(text: &str) -> Option<(u32, u32)> {
         let mut starts = [0; 5];
         let mut others = [0; 6];
         let mut keys = [Cents(0); 6];
         let mut stores = [0; 4];
         let mut editions = [0; 4];
-        let answer = read(
-            text.as_bytes(),
-            &mut starts,
-            &mut others,
-            &mut keys,
-            &mut stores,
-            &mut editions,
-        );
-        match answer {
+        let mut tables = TablesMut {
+            starts: &mut starts,
+            others: &mut others,
+            keys: &mut keys,
+            stores: &mut stores,
+            editions: &mut editions,
+        };
+        match read(text.as_bytes(), &mut tables) {
             Ok(sizes) => refusal(Tables {
                 starts: front(&starts, sizes.parcels as usize + 1),
                 others: front(&others, sizes.entries as usize),
@@ -44,12 +47,12 @@ mod tests {
                 editions: front(&editions, sizes.parcels as usize),
                 store_count: sizes.stores,
             }),
-            Err(fault) => Some(fault),
+            Err(fault) => Some(numbers(fault)),
         }
     }
 
     // The same of so many parcels in store 0 and so many stores, with no entries.
-    fn bare_refusal(parcels: usize, store_count: u32) -> Option<Fault> {
+    fn bare_refusal(parcels: usize, store_count: u32) -> Option<(u32, u32)> {
         refusal(Tables {
             starts: front(&[0; 1026], parcels.saturating_add(1)),
             others: &[],
@@ -61,7 +64,11 @@ mod tests {
     }
 
     // The same of one pair of parcels, with these tables in the place of the right ones.
-    fn pair_refusal<'a>(starts: &'a [u32], others: &'a [u32], stores: &'a [u32]) -> Option<Fault> {
+    fn pair_refusal<'a>(
+        starts: &'a [u32],
+        others: &'a [u32],
+        stores: &'a [u32],
+    ) -> Option<(u32, u32)> {
         refusal(Tables {
             starts,
             others,

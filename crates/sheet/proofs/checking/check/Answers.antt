@@ -1,43 +1,23 @@
-use Rattle.std.proofs.Common.{sym, refl}
-use Rattle.sheet.specs.Check.{size, table, parcel, entry}
+use Rattle.std.proofs.Common.{◌≡◌, Err, refl, rules, ◌∙◌, ap}
 use Rattle.sheet.specs.View.{graph}
-use Rattle.sheet.proofs.Verdict.{passes, refused_not_passed}
+use Rattle.sheet.proofs.Verdict.{refused_not_passed}
 use Rattle.sheet.proofs.checking.check.Goals as goal
 
-pub returns-then-not-sizes_right : goal.returns-then-not-sizes_right
-returns-then-not-sizes_right g c =
-    let f = size (sym c.if-not-sizes_right.ensures) in
-    (f, refused_not_passed g.K.Ranking.atleast (graph c.args.tables) f, refl)
+pub returns-in_err-new : goal.returns-in_err-new
+returns-in_err-new g c =
+    let refused = c.in_err-new.ensures in
+    let is : c.from_residual.result ≡ Err c.in_err-new.field-0.0 = search rules in
+    rw is (refused, refused_not_passed g.K.Ranking.atleast (graph c.args.tables) refused, refl)
 
-pub returns-then-not-lengths_right : goal.returns-then-not-lengths_right
-returns-then-not-lengths_right g c =
-    let f = table (sym c.if-not-sizes_right.ensures) (sym c.if-not-lengths_right.ensures) in
-    (f, refused_not_passed g.K.Ranking.atleast (graph c.args.tables) f, refl)
+pub returns-in_err-rows : goal.returns-in_err-rows
+returns-in_err-rows g c =
+    let refused = rw c.in_ok-new.ensures at c.in_err-rows.ensures in
+    let is : c.from_residual-in_err-rows.result ≡ Err c.in_err-rows.field-0.0 = search rules in
+    rw is (refused, refused_not_passed g.K.Ranking.atleast (graph c.args.tables) refused, refl)
 
-pub returns-in-Some : goal.returns-in-Some
-returns-in-Some g c =
-    let f = parcel (sym c.if-not-sizes_right.ensures) (sym c.if-not-lengths_right.ensures) c.in-Some.ensures in
-    (f, refused_not_passed g.K.Ranking.atleast (graph c.args.tables) f, refl)
-
-pub returns-in-Some-wrong_entry : goal.returns-in-Some-wrong_entry
-returns-in-Some-wrong_entry g c =
-    let f = entry (sym c.if-not-sizes_right.ensures) (sym c.if-not-lengths_right.ensures) c.in_default.ensures c.in-Some-wrong_entry.ensures in
-    (f, refused_not_passed g.K.Ranking.atleast (graph c.args.tables) f, refl)
-
-pub invariant_of-sheet : goal.invariant_of-sheet
-invariant_of-sheet g c =
-    let s =
-    (passes g.K.Ranking.atleast (graph c.args.tables) (sym c.if-not-sizes_right.ensures) (sym c.if-not-lengths_right.ensures) c.in_default.ensures c.in_default-wrong_entry.ensures).sound in
-    record {
-      sizes = s.sized_right;
-      lengths = s.fitted_right;
-      bare = s.bare;
-      parcel = s.parcel;
-      rising = s.rising;
-      mirror = s.mirror;
-      edition = s.edition;
-    }
-
-pub returns : goal.returns
-returns g c =
-    (passes g.K.Ranking.atleast (graph c.args.tables) (sym c.if-not-sizes_right.ensures) (sym c.if-not-lengths_right.ensures) c.in_default.ensures c.in_default-wrong_entry.ensures, refl)
+pub returns-in_err-sheet : goal.returns-in_err-sheet
+returns-in_err-sheet g c =
+    let same = ap (λ f. f.tables) c.in_ok-rows.ensures ∙ c.in_ok-new.ensures in
+    let refused = rw same at c.in_err-sheet.ensures in
+    let is : c.from_residual-in_err-sheet.result ≡ Err c.in_err-sheet.field-0.0 = search rules in
+    rw is (refused, refused_not_passed g.K.Ranking.atleast (graph c.args.tables) refused, refl)
