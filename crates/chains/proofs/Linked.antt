@@ -1,8 +1,9 @@
 -- A chain that ends, and what a write to the table of slots leaves of it. Assumes nothing.
 use Rattle.std.proofs.Common.{◌≡◌, ℕ, zero, suc, ◌<◌, ◌≤◌, Bool, true, false, cond, ◌&&◌, eqb, ltb, ◌≢◌, List, [], ◌∷◌, ◌++◌, map, length, set, sym, refl, ap, ◌∙◌, subst, ⊎_elim, arith}
 use Rattle.std.specs.List.{AllByRecursion, list_all}
+use Rattle.std.proofs.Math.Path.{fun_ext}
 use Rattle.std.proofs.lemmas.List.{get_or-set_same, get_or-set_other, set_past}
-use Rattle.std.proofs.lemmas.Bool.{ltb-true, ltb-false, lt-ltb, le-ltb, cases_lt, cases_eq, eqb-true, and_parts, and_from, cond-true, cond-false}
+use Rattle.std.proofs.lemmas.Bool.{ltb-true, ltb-false, lt-ltb, le-ltb, cases_lt, cases_eq, eqb-true, and_parts, cond-true, cond-false}
 use Rattle.line.specs.declared.Note.{Note}
 use Rattle.chains.specs.declared.Slot.{Slot}
 use Rattle.chains.specs.Walk.{blank, slot, slot_at, walk, holds, last_or, linked_to}
@@ -96,12 +97,6 @@ notes_set slots (x ∷ xs) y v free =
     ap (λ (q : Slot). q.note ∷ map (note_at (set slots y v)) xs) same
     ∙ ap (λ ns. note_at slots x ∷ ns) (notes_set slots xs y v free.1)
 
-pub holds_append : (slots : List Slot) (s : ℕ) (xs ys : List ℕ) → list_all (holds slots s) xs ≡ true → list_all (holds slots s) ys ≡ true → list_all (holds slots s) (xs ++ ys) ≡ true
-holds_append slots s [] ys h k = k
-holds_append slots s (x ∷ xs) ys h k =
-    let both = and_parts (holds slots s x) (list_all (holds slots s) xs) h in
-    and_from (holds slots s x) (list_all (holds slots s) (xs ++ ys)) both.0 (holds_append slots s xs ys both.1 k)
-
 -- ---- the last place
 
 pub last_rest : (t x : ℕ) (xs : List ℕ) → last_or t (x ∷ xs) ≡ t → last_or t xs ≡ t
@@ -134,17 +129,14 @@ note_linked_to slots t link p =
     (λ ne. ap (λ (q : Slot). q.note) (get_or-set_other slots t p v blank ne))
     (cases_eq p t)
 
+notes_linked : (slots : List Slot) (t link : ℕ) → note_at (linked_to slots t link) ≡ note_at slots
+notes_linked slots t link = fun_ext (note_linked_to slots t link)
+
 pub holds_linked_to : (slots : List Slot) (t link s : ℕ) (xs : List ℕ) → list_all (holds (linked_to slots t link) s) xs ≡ list_all (holds slots s) xs
-holds_linked_to slots t link s [] = refl
-holds_linked_to slots t link s (x ∷ xs) =
-    ap (λ (n : Note). eqb n.store s && list_all (holds (linked_to slots t link) s) xs) (note_linked_to slots t link x)
-    ∙ ap (λ b. holds slots s x && b) (holds_linked_to slots t link s xs)
+holds_linked_to slots t link s xs = ap (λ (note : ℕ → Note). list_all (λ p. eqb (note p).store s) xs) (notes_linked slots t link)
 
 pub notes_linked_to : (slots : List Slot) (t link : ℕ) (xs : List ℕ) → map (note_at (linked_to slots t link)) xs ≡ map (note_at slots) xs
-notes_linked_to slots t link [] = refl
-notes_linked_to slots t link (x ∷ xs) =
-    ap (λ n. n ∷ map (note_at (linked_to slots t link)) xs) (note_linked_to slots t link x)
-    ∙ ap (λ ns. note_at slots x ∷ ns) (notes_linked_to slots t link xs)
+notes_linked_to slots t link xs = ap (λ (note : ℕ → Note). map note xs) (notes_linked slots t link)
 
 pub extend : (slots : List Slot) (cap p x : ℕ) (xs : List ℕ) (t y : ℕ) (ys : List ℕ) → t < length slots → last_or x xs ≡ t → FreeOf t ys → Linked slots cap p (x ∷ xs) → Linked slots cap y ys → Linked (linked_to slots t y) cap p ((x ∷ xs) ++ ys)
 extend slots cap p x [] t y ys in' last free l k =

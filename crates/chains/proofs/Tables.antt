@@ -1,12 +1,12 @@
 -- From the facts that a pool keeps of its tables to the chains that they describe, and back. Assumes nothing.
-use Rattle.std.proofs.Common.{◌≡◌, ℕ, ◌+◌, ◌<◌, ◌≤◌, cond, ltb, List, [], ◌∷◌, map, length, get_or, Some, refl, ap, ◌∙◌, add-one, arith}
+use Rattle.std.proofs.Common.{◌≡◌, ℕ, ◌+◌, ◌<◌, ◌≤◌, cond, ltb, List, [], ◌∷◌, map, length, get_or, refl, ap, ◌∙◌, add-one, arith}
 use Rattle.std.specs.List.{list_all}
 use Rattle.std.proofs.lemmas.List.{length-append, length-map}
 use Rattle.std.proofs.lemmas.Bool.{lt-ltb, le-ltb, cond-true, cond-false}
 use Rattle.line.specs.declared.Note.{Note}
 use Rattle.chains.specs.declared.Slot.{Slot}
 use Rattle.chains.specs.Gathered.{gathered}
-use Rattle.chains.specs.Stores.{notes_in, front}
+use Rattle.chains.specs.Stores.{notes_in}
 use Rattle.chains.specs.Tables.{Kept, held}
 use Rattle.chains.specs.Walk.{slot_at, walk, chain, holds, last_or}
 use Rattle.chains.proofs.Linked.{note_at, linked_walk, walk_linked}
@@ -60,11 +60,3 @@ free_count slots heads cap room whole spare =
     let same = gathered_lengths (notes_in slots heads cap) (chain slots heads cap) 64
     (λ s below. ap length (notes_within slots heads cap s below) ∙ length-map (chain slots heads cap s) (note_at slots)) in
     omega arith
-
-pub front_some : (slots : List Slot) (heads : List ℕ) (cap s : ℕ) → s < 64 → get_or heads s 0 < cap → front (notes_in slots heads cap s) ≡ Some (note_at slots (get_or heads s 0))
-front_some slots heads cap s below taken =
-    ap front (notes_within slots heads cap s below ∙ ap (map (note_at slots)) (chain_first slots heads cap s ∙ cond-true (ltb (get_or heads s 0) cap) _ [] (lt-ltb _ cap taken)))
-
-pub front_none : (slots : List Slot) (heads : List ℕ) (cap s : ℕ) → s < 64 → cap ≤ get_or heads s 0 → notes_in slots heads cap s ≡ []
-front_none slots heads cap s below left =
-    notes_within slots heads cap s below ∙ ap (map (note_at slots)) (chain_first slots heads cap s ∙ cond-false (ltb (get_or heads s 0) cap) _ [] (le-ltb _ cap left))

@@ -2,11 +2,14 @@
 use Rattle.std.proofs.Common.{◌≡◌, ℕ, ◌<◌, ◌≤◌, Bool, true, false, cond, ltb, ◌≢◌, List, [], ◌∷◌, ◌++◌, map, length, get_or, set, sym, refl, ap, ◌∙◌, subst, ⊎_elim, arith}
 use Rattle.std.specs.List.{list_all}
 use Rattle.std.proofs.lemmas.List.{get_or-set_same, get_or-set_other, set-get_or, length-set, map-append}
+use Rattle.std.proofs.lemmas.List.Folds.{list_all-append}
 use Rattle.std.proofs.lemmas.Bool.{lt-ltb, le-ltb, cases_eq, eqb-true, eq-eqb, and_parts, and_from, cond-true, cond-false}
 use Rattle.line.specs.declared.Note.{Note}
+use Rattle.chains.specs.declared.Pool.{Pool}
 use Rattle.chains.specs.declared.Slot.{Slot}
+use Rattle.chains.specs.Stores.{capacity_of}
 use Rattle.chains.specs.Walk.{blank, slot, slot_at, holds, last_or, linked_to}
-use Rattle.chains.proofs.Linked.{Linked, FreeOf, note_at, linked_set, once, places_below, elsewhere, holds_set, notes_set, last_rest, last_push, all_last, pass_last, holds_append, holds_linked_to, notes_linked_to, extend}
+use Rattle.chains.proofs.Linked.{Linked, FreeOf, note_at, linked_set, once, places_below, elsewhere, holds_set, notes_set, last_rest, last_push, all_last, pass_last, holds_linked_to, notes_linked_to, extend}
 use Rattle.chains.proofs.Updated.{upd, upd_same, upd_other}
 
 -- from its first place h to its last place t, chain s goes over the places and holds the notes
@@ -78,7 +81,7 @@ thread_back slots cap h t s x xs ns p n end below within past for-s free th =
     let mine : list_all (holds slots₁ s) (p ∷ []) ≡ true = and_from (holds slots₁ s p) true (eq-eqb _ s (ap (λ (q : Slot). q.note.store) here ∙ for-s)) refl in
     record {
       linked = extend slots₁ cap h x xs t p (p ∷ []) (omega arith) th.ended (apart, tt) kept.linked alone;
-      owned = holds_linked_to slots₁ t p s ((x ∷ xs) ++ p ∷ []) ∙ holds_append slots₁ s (x ∷ xs) (p ∷ []) kept.owned mine;
+      owned = holds_linked_to slots₁ t p s ((x ∷ xs) ++ p ∷ []) ∙ list_all-append (holds slots₁ s) (x ∷ xs) (p ∷ []) ∙ and_from (list_all (holds slots₁ s) (x ∷ xs)) (list_all (holds slots₁ s) (p ∷ [])) kept.owned mine;
       ended = last_push p p (x ∷ xs);
       noted = notes_linked_to slots₁ t p ((x ∷ xs) ++ p ∷ []) ∙ map-append (note_at slots₁) (x ∷ xs) (p ∷ []) ∙ ap (λ ms. ms ++ note_at slots₁ p ∷ []) kept.noted ∙ ap (λ (q : Slot). ns ++ q.note ∷ []) here;
     }
@@ -178,3 +181,15 @@ module _ (slots : List Slot) (heads tails : List ℕ) (cap : ℕ) (places : ℕ 
 
       pub back_step : Threads (cond (ltb (get_or heads n.store 0) cap) (linked_to (set slots p (slot n end)) (get_or tails n.store 0) p) (set slots p (slot n end))) (cond (ltb (get_or heads n.store 0) cap) heads (set heads n.store p)) (set tails n.store p) cap (upd places n.store (places n.store ++ p ∷ [])) (upd notes n.store (notes n.store ++ n ∷ []))
       back_step = back_by (places n.store) (notes n.store) (loose n.store known) (threads n.store known)
+
+-- ---- the chains of a pool
+
+abbrev pub ThreadsIn : Pool → (ℕ → List ℕ) → (ℕ → List Note) → Type 0
+ThreadsIn pool = Threads pool.slots.now pool.heads pool.tails (capacity_of pool)
+
+pub threads_in : (pool : Pool) {slots : List Slot} {heads tails : List ℕ} {cap : ℕ} {places : ℕ → List ℕ} {notes : ℕ → List Note} → slots ≡ pool.slots.now → heads ≡ pool.heads → tails ≡ pool.tails → cap ≡ capacity_of pool → Threads slots heads tails cap places notes → ThreadsIn pool places notes
+threads_in pool {slots} {heads} {tails} {cap} {places} {notes} a b c d t =
+    subst (λ ss. Threads ss pool.heads pool.tails (capacity_of pool) places notes) a
+    (subst (λ hs. Threads slots hs pool.tails (capacity_of pool) places notes) b
+    (subst (λ ts. Threads slots heads ts (capacity_of pool) places notes) c
+    (subst (λ k. Threads slots heads tails k places notes) d t)))

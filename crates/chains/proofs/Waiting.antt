@@ -3,7 +3,7 @@ use Rattle.std.proofs.Common.{◌≡◌, ℕ, zero, suc, ◌<◌, ◌≤◌, tru
 use Rattle.std.specs.List.{ContainsAt, AllByRecursion, list_all}
 use Rattle.std.specs.List.Sorted.{IsPermutation}
 use Rattle.std.proofs.ByRecursion.{All-append, All-weaker, has_shuffled}
-use Rattle.std.proofs.lemmas.List.Sorted.{IsPermutation-refl, IsPermutation-cons, IsPermutation-swap, IsPermutation-trans}
+use Rattle.std.proofs.lemmas.List.Sorted.{IsPermutation-middle, IsPermutation-sym}
 use Rattle.std.proofs.lemmas.Bool.{cases_eq, eqb-true, and_parts}
 use Rattle.line.specs.declared.Note.{Note}
 use Rattle.line.specs.Law.{Lawful, Choice}
@@ -12,22 +12,13 @@ use Rattle.chains.specs.declared.End.TheVariants.{Front, Back}
 use Rattle.chains.specs.declared.Pool.{Pool}
 use Rattle.chains.specs.declared.Slot.{Slot}
 use Rattle.chains.specs.Gathered.{gathered}
-use Rattle.chains.specs.Stores.{Sound, by_store, all_notes, capacity_of, front, Elsewhere, Removed}
-use Rattle.chains.specs.Tables.{joined}
+use Rattle.chains.specs.Stores.{Sound, by_store, all_notes, capacity_of, front, Elsewhere, Placed, Removed}
 use Rattle.chains.specs.Walk.{holds, chain}
 use Rattle.chains.proofs.Linked.{note_at}
 use Rattle.chains.proofs.Puts.{free_count_of, store_within, has_store}
-use Rattle.chains.proofs.Updated.{upd, upd_same, upd_other, gathered_same, gathered_none}
+use Rattle.chains.proofs.Updated.{upd, upd_same, upd_other, gathered_same}
 
 -- ---- a note more
-
--- where it stands does not matter
-shuffled_into : {X : Type 0} (x : X) (p q : List X) → IsPermutation (x ∷ (p ++ q)) (p ++ x ∷ q)
-shuffled_into x [] q = IsPermutation-refl (x ∷ q)
-shuffled_into x (y ∷ p) q =
-    IsPermutation-trans (x ∷ y ∷ (p ++ q)) (y ∷ x ∷ (p ++ q)) (y ∷ (p ++ x ∷ q))
-    (IsPermutation-swap (x ∷ y ∷ (p ++ q)) (y ∷ x ∷ (p ++ q)) 0 1 (omega arith) (omega arith) refl)
-    (IsPermutation-cons y (x ∷ (p ++ q)) (p ++ x ∷ q) (shuffled_into x p q))
 
 -- of all lists joined, the part before the note and the part behind it
 record Split {X : Type 0} (x : X) (old new : List X) : Type 0 where
@@ -60,16 +51,20 @@ module _ {X : Type 0} (f g : ℕ → List X) (t : ℕ) (x : X) (a b : List X) (o
   one_more n h =
       let s = split n h in
       subst (λ new. IsPermutation (x ∷ gathered f n) new) (sym s.new_is)
-      (subst (λ old. IsPermutation (x ∷ old) (s.before ++ x ∷ s.behind)) (sym s.old_is) (shuffled_into x s.before s.behind))
+      (subst (λ old. IsPermutation (x ∷ old) (s.before ++ x ∷ s.behind)) (sym s.old_is) (IsPermutation-sym (s.before ++ x ∷ s.behind) (x ∷ (s.before ++ s.behind)) (IsPermutation-middle s.before x s.behind)))
 
 -- ---- the calls of a pool
 
 -- a note that was put waits once more
-pub placed_waits : (end : End) (note : Note) (old new : ℕ → List Note) → note.store ≤ 63 → new note.store ≡ joined end note (old note.store) → Elsewhere note.store old new → IsPermutation (note ∷ gathered old 64) (gathered new 64)
-placed_waits Front note old new known here others =
-    one_more old new note.store note [] (old note.store) refl here others 64 (omega arith)
-placed_waits Back note old new known here others =
-    one_more old new note.store note (old note.store) [] (sym (append-nil (old note.store))) here others 64 (omega arith)
+pub placed_waits : (end : End) (note : Note) (old new : Pool) → note.store ≤ 63 → Placed end note old new → IsPermutation (note ∷ all_notes old) (all_notes new)
+placed_waits Front note old new known placed =
+    one_more (by_store old) (by_store new) note.store note [] (by_store old note.store) refl placed.0 placed.1 64 (omega arith)
+placed_waits Back note old new known placed =
+    one_more (by_store old) (by_store new) note.store note (by_store old note.store) [] (sym (append-nil (by_store old note.store))) placed.0 placed.1 64 (omega arith)
+
+pub has_some : (note : Note) (notes : List Note) → Some note ≡ front notes → 0 < length notes
+has_some note [] e = absurd (let z : ◌≡◌ {A = ℕ} 0 1 = cc in omega arith)
+has_some note (n ∷ ns) e = omega arith
 
 -- the first note is gone, and was the one that was handed out
 pub taken_is : (note : Note) (s : ℕ) (old new : Pool) → Some note ≡ front (by_store old s) → Removed s old new → (by_store old s ≡ note ∷ by_store new s) × Elsewhere s (by_store old) (by_store new)
@@ -101,7 +96,7 @@ module _ (pool : Pool) (sound : Sound pool) where
   pub at_home : (s : ℕ) → s < 64 → AllByRecursion (λ n. n.store ≡ s) (by_store pool s)
   at_home s known =
       subst (AllByRecursion (λ n. n.store ≡ s)) (store_within pool s known)
-      (held_stores pool.slots.now s (chain pool.slots.now pool.heads pool.capacity s) (sound.chained s (omega arith)).0)
+      (held_stores pool.slots.now s (chain pool.slots.now pool.heads (capacity_of pool) s) (sound.chained s (omega arith)).0)
 
   choice_none : (s : ℕ) → by_store pool s ≡ [] → AllByRecursion (λ n. n.store ≡ s → ⊥) (all_notes pool)
   choice_none s none =
@@ -128,11 +123,7 @@ module _ (pool : Pool) (sound : Sound pool) where
   pub pool_lawful : Lawful (all_notes pool) (capacity_of pool) (λ s. front (by_store pool s))
   pool_lawful = record {
     within = let count = free_count_of pool sound in omega arith;
-    limit = sound.sized.0;
+    limit = sound.sized;
     stores = gathered_all (λ n. n.store ≤ 63) (by_store pool) 64 (λ s known. All-weaker (λ n. n.store ≡ s) (λ n. n.store ≤ 63) (λ n here. omega arith) (by_store pool s) (at_home s known));
     choice = λ s. choice s (by_store pool s) refl;
   }
-
--- a pool with no note for any store
-pub none_wait : (pool : Pool) → ((s : ℕ) → by_store pool s ≡ []) → all_notes pool ≡ []
-none_wait pool empty = gathered_none (by_store pool) 64 (λ s l. empty s)

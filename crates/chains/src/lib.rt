@@ -2,9 +2,17 @@
 //! between chains. The calls that move notes stand in the crate above.
 #![tactic(auto)]
 
-use line::Note;
+ghost use Rattle.std.specs.Prelude.{◌≡◌, length};
 
-/// A place for one note. On a chain, it names the place behind it.
+use line::{LAST_STORE, Note};
+
+/// The chain of the free places: one past the last store.
+pub const FREE: u32 = LAST_STORE + 1;
+/// How many chains there are: one for each store, and that of the free places.
+pub const CHAINS: usize = FREE as usize + 1;
+
+/// A place for one note. On a chain, it names the place behind it by its number: the places are lent, since no library
+/// crate uses a heap.
 #[repr(C)]
 #[derive(Clone, Copy)]
 pub struct Slot {
@@ -23,13 +31,15 @@ pub enum End {
 /// number of the chain that the place stands on.
 #[derive(Drop)]
 pub struct Pool<'a> {
+    /// The places, as many as the capacity says.
     pub slots: &'a mut [Slot],
+    // two tables rather than one of pairs: most moves, and the theory, need the first places alone
     /// The first place of each chain; a number from the capacity up is no place.
-    pub heads: [u32; 65],
+    pub heads: [u32; CHAINS],
     /// The last place of each chain that has one.
-    pub tails: [u32; 65],
+    pub tails: [u32; CHAINS],
     /// How many places are free.
     pub room: u32,
-    /// How many places there are.
-    pub capacity: u32,
+    // the types say so, but a proof knows an array's length only where the code reads the array
+    pub ghost tabled: { (length heads ≡ 65) × (length tails ≡ 65) },
 }

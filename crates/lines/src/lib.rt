@@ -5,17 +5,25 @@
 ghost use Rattle.std.specs.Prelude.{◌≡◌, length};
 ghost use Rattle.lines.specs.Asked.{ask_answer};
 
-use chains::Slot;
-use faults::{Fault, ROOM, SIZE};
+use chains::{FREE, Slot};
+use faults::{Fault, Refusal};
 use line::{MAX_NOTES, Note};
 
 mod links;
-pub mod pigeonholes;
-mod pool;
-pub mod queue;
+mod order;
+mod store_line;
+#[cfg(test)]
+mod tests;
 
-/// The chain of the free places: one past the last store.
-const FREE: u32 = 64;
+pub use order::{NewestFirst, OldestFirst, Order};
+pub use store_line::StoreLine;
+
+/// The line that hands a store its oldest note.
+pub type Queue<'a> = StoreLine<'a, OldestFirst>;
+
+/// The line that hands a store its newest note.
+pub type Pigeonholes<'a> = StoreLine<'a, NewestFirst>;
+
 /// Where a chain ends: no place has this number.
 const END: u32 = u32::MAX;
 
@@ -33,16 +41,16 @@ pub const BLANK: Slot = Slot {
     link: END,
 };
 
-/// Whether a line of this capacity can be made in the buffer. Fails with `SIZE` if the capacity is above 16,384, and
-/// else with `ROOM` if the buffer is shorter than the capacity; the place is 0.
+/// Whether a line of this capacity can be made in the buffer. Fails with `Size` if the capacity is above 16,384, and
+/// else with `Room` if the buffer is shorter than the capacity; the place is 0.
 pub fn ask(buffer: &[Slot], capacity: u32) -> Result<(), Fault>
     ensures { result ≡ ask_answer (length buffer.now) capacity }
 {
     if capacity > MAX_NOTES {
-        return Err((SIZE, 0));
+        return Err((Refusal::Size, 0));
     }
     if buffer.len() < capacity as usize {
-        return Err((ROOM, 0));
+        return Err((Refusal::Room, 0));
     }
     Ok(())
 }

@@ -1,89 +1,75 @@
-//! The steps on the tables of the chains: a place leaves a chain at its front, or joins one at either end.
+//! The steps on the chains of a pool: a place leaves a chain at its front, or joins one at either end. Each says of the
+//! counts that it leaves them alone, which no fact about one pool can say.
 ghost use Rattle.std.specs.Prelude.{◌≡◌, ◌<◌, length, if◌then◌else◌, nat_lt, slice_index, slice_set};
-ghost use Rattle.chains.specs.Tables.{Kept, Movable, Moved, held};
+ghost use Rattle.chains.specs.Tables.{Moved};
+ghost use Rattle.chains.specs.Stores.{KeptIn, MovableIn, SameSizes, capacity_of, held_in};
 ghost use Rattle.chains.specs.Walk.{slot_at, slot, linked_to};
 
 use crate::END;
-use chains::{End, Slot};
+use chains::{End, Pool, Slot};
 use line::Note;
 
 // Takes the first place off a chain that has one.
-fn pop(slots: &[Slot], heads: &mut [u32], from: usize) -> u32
-    requires { (from < length heads.old) × (slice_index heads.old from < length slots.now) }
-    ensures place { result ≡ slice_index heads.old from }
-    ensures heads { heads.new ≡ slice_set heads.old from (slot_at slots.now result).link }
+fn pop(pool: &mut Pool, from: u32) -> u32
+    requires { (from < 65) × (slice_index pool.old.heads from < capacity_of pool.old) }
+    ensures place { result ≡ slice_index pool.old.heads from }
+    ensures slots { pool.new.slots.now ≡ pool.old.slots.now }
+    ensures heads { pool.new.heads ≡ slice_set pool.old.heads from (slot_at pool.old.slots.now result).link }
+    ensures tails { pool.new.tails ≡ pool.old.tails }
+    ensures sizes { SameSizes pool.old pool.new }
 {
-    let place = heads[from];
-    heads[from] = slots[place as usize].link;
+    let place = pool.heads[from as usize];
+    pool.heads[from as usize] = pool.slots[place as usize].link;
     place
 }
 
 // Puts a place with the note in front of the chain of the note's store.
-pub(crate) fn push_front(
-    slots: &mut [Slot],
-    heads: &mut [u32],
-    tails: &mut [u32],
-    capacity: u32,
-    place: u32,
-    note: Note,
-)
-    requires { (note.store < length heads.old) × ((note.store < length tails.old) × (place < length slots.old)) }
-    ensures slots { slots.new ≡ slice_set slots.old place (slot note (slice_index heads.old note.store)) }
-    ensures heads { heads.new ≡ slice_set heads.old note.store place }
-    ensures tails { tails.new ≡ (if nat_lt (slice_index heads.old note.store) capacity then tails.old else slice_set tails.old note.store place) }
+pub(crate) fn push_front(pool: &mut Pool, place: u32, note: Note)
+    requires { (note.store < 65) × (place < capacity_of pool.old) }
+    ensures slots { pool.new.slots.now ≡ slice_set pool.old.slots.now place (slot note (slice_index pool.old.heads note.store)) }
+    ensures heads { pool.new.heads ≡ slice_set pool.old.heads note.store place }
+    ensures tails { pool.new.tails ≡ (if nat_lt (slice_index pool.old.heads note.store) (capacity_of pool.old) then pool.old.tails else slice_set pool.old.tails note.store place) }
+    ensures sizes { SameSizes pool.old pool.new }
 {
     let to = note.store as usize;
-    let head = heads[to];
-    slots[place as usize] = Slot { note, link: head };
-    heads[to] = place;
-    if head >= capacity {
-        tails[to] = place;
+    let head = pool.heads[to];
+    pool.slots[place as usize] = Slot { note, link: head };
+    pool.heads[to] = place;
+    if head as usize >= pool.slots.len() {
+        pool.tails[to] = place;
     }
 }
 
 // Puts a place with the note behind the chain of the note's store.
-fn push_back(
-    slots: &mut [Slot],
-    heads: &mut [u32],
-    tails: &mut [u32],
-    capacity: u32,
-    place: u32,
-    note: Note,
-)
-    requires within { (note.store < length heads.old) × ((note.store < length tails.old) × (place < length slots.old)) }
-    requires last_within { slice_index heads.old note.store < capacity → slice_index tails.old note.store < length slots.old }
-    ensures slots { slots.new ≡ (if nat_lt (slice_index heads.old note.store) capacity then linked_to (slice_set slots.old place (slot note 4294967295)) (slice_index tails.old note.store) place else slice_set slots.old place (slot note 4294967295)) }
-    ensures heads { heads.new ≡ (if nat_lt (slice_index heads.old note.store) capacity then heads.old else slice_set heads.old note.store place) }
-    ensures tails { tails.new ≡ slice_set tails.old note.store place }
+fn push_back(pool: &mut Pool, place: u32, note: Note)
+    requires within { (note.store < 65) × (place < capacity_of pool.old) }
+    requires last_within { slice_index pool.old.heads note.store < capacity_of pool.old → slice_index pool.old.tails note.store < capacity_of pool.old }
+    ensures slots { pool.new.slots.now ≡ (if nat_lt (slice_index pool.old.heads note.store) (capacity_of pool.old) then linked_to (slice_set pool.old.slots.now place (slot note 4294967295)) (slice_index pool.old.tails note.store) place else slice_set pool.old.slots.now place (slot note 4294967295)) }
+    ensures heads { pool.new.heads ≡ (if nat_lt (slice_index pool.old.heads note.store) (capacity_of pool.old) then pool.old.heads else slice_set pool.old.heads note.store place) }
+    ensures tails { pool.new.tails ≡ slice_set pool.old.tails note.store place }
+    ensures sizes { SameSizes pool.old pool.new }
 {
     let to = note.store as usize;
-    slots[place as usize] = Slot { note, link: END };
-    if heads[to] < capacity {
-        let last = tails[to];
-        slots[last as usize].link = place;
+    pool.slots[place as usize] = Slot { note, link: END };
+    if (pool.heads[to] as usize) < pool.slots.len() {
+        let last = pool.tails[to];
+        pool.slots[last as usize].link = place;
     } else {
-        heads[to] = place;
+        pool.heads[to] = place;
     }
-    tails[to] = place;
+    pool.tails[to] = place;
 }
 
 // Moves the first place of one chain to an end of the note's chain, with the note.
-pub(crate) fn carry(
-    slots: &mut [Slot],
-    heads: &mut [u32],
-    tails: &mut [u32],
-    capacity: u32,
-    from: usize,
-    note: Note,
-    end: End,
-)
-    requires { Movable slots.old heads.old tails.old capacity from note }
-    ensures kept { Kept slots.new heads.new tails.new capacity }
-    ensures moved { Moved end from note (held slots.old heads.old capacity) (held slots.new heads.new capacity) }
+pub(crate) fn carry(pool: &mut Pool, from: u32, note: Note, end: End)
+    requires { MovableIn pool.old from note }
+    ensures kept { KeptIn pool.new }
+    ensures moved { Moved end from note (held_in pool.old) (held_in pool.new) }
+    ensures sizes { SameSizes pool.old pool.new }
 {
-    let place = pop(slots, heads, from);
+    let place = pop(pool, from);
     match end {
-        End::Front => push_front(slots, heads, tails, capacity, place, note),
-        End::Back => push_back(slots, heads, tails, capacity, place, note),
+        End::Front => push_front(pool, place, note),
+        End::Back => push_back(pool, place, note),
     }
 }

@@ -4,10 +4,9 @@
 ghost use Rattle.std.specs.Prelude.{◌≡◌};
 ghost use Rattle.lines_demo.specs.Played.{played};
 
-use line::{BID, DROP, Line, Note};
-use lines::BLANK;
-use lines::pigeonholes::Pigeonholes;
-use lines::queue::Queue;
+use faults::Fault;
+use line::{Kind, LAST_STORE, Line, Note};
+use lines::{BLANK, Pigeonholes, Queue};
 use std::{fmt, io};
 
 /// How long the script is, and how many of its steps are printed one by one.
@@ -27,20 +26,16 @@ enum Step {
 /// What a line answers to a step.
 #[derive(Clone, Copy, PartialEq, Eq, Debug)]
 enum Answer {
-    Kept,
-    Refused(u32, u32),
-    Handed(u32),
-    Nothing,
+    /// Whether the note was kept.
+    Kept(Result<(), Fault>),
+    /// The sender of the note that was handed out, or none.
+    Handed(Option<u32>),
 }
 
 impl fmt::Display for Step {
     fn fmt<W: fmt::Write>(&self, f: &mut fmt::Formatter<W>) -> fmt::Result {
         match self {
-            Step::Put(note) => {
-                let sender = note.sender;
-                let store = note.store;
-                write!(f, "put {sender} for store {store}")
-            }
+            Step::Put(Note { sender, store, .. }) => write!(f, "put {sender} for store {store}"),
             Step::Take(store) => write!(f, "take for store {store}"),
         }
     }
@@ -49,10 +44,10 @@ impl fmt::Display for Step {
 impl fmt::Display for Answer {
     fn fmt<W: fmt::Write>(&self, f: &mut fmt::Formatter<W>) -> fmt::Result {
         match self {
-            Answer::Kept => write!(f, "kept"),
-            Answer::Refused(number, place) => write!(f, "refused {number} at {place}"),
-            Answer::Handed(sender) => write!(f, "{sender}"),
-            Answer::Nothing => write!(f, "none"),
+            Answer::Kept(Ok(())) => write!(f, "kept"),
+            Answer::Kept(Err((refusal, place))) => write!(f, "refused {refusal} at {place}"),
+            Answer::Handed(Some(sender)) => write!(f, "{sender}"),
+            Answer::Handed(None) => write!(f, "none"),
         }
     }
 }
@@ -60,13 +55,17 @@ impl fmt::Display for Answer {
 /// The step at a place of the script, by dice. A note's sender is the step's number; now and then its store is one that
 /// there is not.
 fn step_at(place: u32, dice: u32) -> Step {
-    let store = if dice % 37 == 0 { 64 } else { dice / 64 % 4 };
+    let store = if dice % 37 == 0 {
+        LAST_STORE + 1
+    } else {
+        dice / 64 % 4
+    };
     if dice / 4096 % 9 < 5 {
         Step::Put(Note {
             sender: place,
             addressee: dice % 64,
             store,
-            kind: if dice % 2 == 0 { BID } else { DROP },
+            kind: u8::from(if dice % 2 == 0 { Kind::Bid } else { Kind::Drop }),
         })
     } else {
         Step::Take(store)
@@ -78,14 +77,8 @@ fn play<L: Line>(line: &mut L, step: Step) -> Answer
     ensures { result ≡ played step (L.Line.waiting line.old) (L.Line.capacity line.old) (L.Line.chosen line.old) }
 {
     match step {
-        Step::Put(note) => match line.put(note) {
-            Ok(()) => Answer::Kept,
-            Err((number, place)) => Answer::Refused(number, place),
-        },
-        Step::Take(store) => match line.take(store) {
-            Some(note) => Answer::Handed(note.sender),
-            None => Answer::Nothing,
-        },
+        Step::Put(note) => Answer::Kept(line.put(note)),
+        Step::Take(store) => Answer::Handed(line.take(store).map(|note| note.sender)),
     }
 }
 
@@ -127,8 +120,14 @@ mod tests {
             sender,
             addressee: 9,
             store,
-            kind: BID,
+            kind: u8::from(Kind::Bid),
         }
+    }
+
+    // a fault as a user is told it
+    fn numbered(fault: Fault) -> (u32, u32) {
+        let (refusal, place) = fault;
+        (u32::from(refusal), place)
     }
 
     // the senders of three notes for store 5, with one for another store between them, in the order they are handed out
@@ -137,11 +136,7 @@ mod tests {
         let _ = line.put(note(2, 5));
         let _ = line.put(note(7, 6));
         let _ = line.put(note(3, 5));
-        let a = play(line, Step::Take(5));
-        let b = play(line, Step::Take(5));
-        let c = play(line, Step::Take(5));
-        let d = play(line, Step::Take(5));
-        [a, b, c, d]
+        [5; 4].map(|store| play(line, Step::Take(store)))
     }
 
     #[test]
@@ -149,10 +144,10 @@ mod tests {
         let mut slots = [BLANK; 4];
         let mut queue = Queue::new(&mut slots, 4);
         let three = [
-            Answer::Handed(1),
-            Answer::Handed(2),
-            Answer::Handed(3),
-            Answer::Nothing,
+            Answer::Handed(Some(1)),
+            Answer::Handed(Some(2)),
+            Answer::Handed(Some(3)),
+            Answer::Handed(None),
         ];
         assert_eq!(rt; handed(&mut queue), three);
         assert_eq!(rt; queue.free(), 3);
@@ -163,10 +158,10 @@ mod tests {
         let mut slots = [BLANK; 4];
         let mut holes = Pigeonholes::new(&mut slots, 4);
         let three = [
-            Answer::Handed(3),
-            Answer::Handed(2),
-            Answer::Handed(1),
-            Answer::Nothing,
+            Answer::Handed(Some(3)),
+            Answer::Handed(Some(2)),
+            Answer::Handed(Some(1)),
+            Answer::Handed(None),
         ];
         assert_eq!(rt; handed(&mut holes), three);
         assert_eq!(rt; holes.free(), 3);
@@ -175,14 +170,14 @@ mod tests {
     #[test]
     fn refusals(rt: HostRuntime) {
         let mut slots = [BLANK; 3];
-        assert_eq!(rt; ask(&slots, 16_385), Err((2, 0)));
-        assert_eq!(rt; ask(&slots, 4), Err((3, 0)));
-        assert_eq!(rt; ask(&slots, 3), Ok(()));
+        assert_eq!(rt; ask(&slots, 16_385).map_err(numbered), Err((2, 0)));
+        assert_eq!(rt; ask(&slots, 4).map_err(numbered), Err((3, 0)));
+        assert_eq!(rt; ask(&slots, 3).map_err(numbered), Ok(()));
         let mut queue = Queue::new(&mut slots, 1);
-        assert_eq!(rt; queue.put(note(8, 64)), Err((10, 64)));
-        assert_eq!(rt; queue.put(note(8, 63)), Ok(()));
-        assert_eq!(rt; queue.put(note(9, 0)), Err((17, 9)));
-        assert_eq!(rt; queue.put(note(9, 64)), Err((10, 64)));
+        assert_eq!(rt; queue.put(note(8, 64)).map_err(numbered), Err((10, 64)));
+        assert_eq!(rt; queue.put(note(8, 63)).map_err(numbered), Ok(()));
+        assert_eq!(rt; queue.put(note(9, 0)).map_err(numbered), Err((17, 9)));
+        assert_eq!(rt; queue.put(note(9, 64)).map_err(numbered), Err((10, 64)));
         assert_eq!(rt; queue.free(), 0);
     }
 
