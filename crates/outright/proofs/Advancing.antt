@@ -8,7 +8,7 @@ use Rattle.sheet.specs.Graph.{Graph, parcels, row_start, other}
 use Rattle.sheet.specs.Check.{Sound}
 use Rattle.pairing.proofs.Entries.{other_below, other_not_own}
 use Rattle.records.specs.Records.{record_of, state, choice, chosen}
-use Rattle.records.specs.declared.Record.{Record}
+use Rattle.records.specs.declared.record.Record.{Record}
 use Rattle.outright.specs.Pointing.{Settled, Kept}
 use Rattle.outright.specs.Settling.{paired_count, Listing, Ready, Settles, stays_lone, waits, pairs, Onward}
 use Rattle.outright.proofs.Changes.{Now, same, lone, waiting, paired, settles_now}

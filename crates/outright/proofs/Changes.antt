@@ -7,7 +7,7 @@ use Rattle.sheet.specs.Check.{Sound}
 use Rattle.pairing.proofs.Entries.{other_below, other_not_own, place_below}
 use Rattle.choosing.specs.Top.{Top}
 use Rattle.records.specs.Records.{record_of, state, choice, chosen_place, chosen, RecordsPair}
-use Rattle.records.specs.declared.Record.{Record}
+use Rattle.records.specs.declared.record.Record.{Record}
 use Rattle.outright.specs.Pointing.{free, Best, Kept}
 use Rattle.outright.specs.Settling.{Settles, stays_lone, waits, pairs}
 

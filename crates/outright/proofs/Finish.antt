@@ -16,7 +16,7 @@ use Rattle.pairing.proofs.Entries.{other_below, other_not_own, mirror_in, mirror
 use Rattle.pairing.proofs.Members.{joint_back, joint_up, pair_in, pair_from}
 use Rattle.pairing.proofs.Orders.{above_ordered, row_above}
 use Rattle.records.specs.Records.{state, chosen_place, chosen, RecordsPair, Entire}
-use Rattle.records.specs.declared.Record.{Record}
+use Rattle.records.specs.declared.record.Record.{Record}
 use Rattle.outright.specs.Pointing.{Settled, Kept}
 use Rattle.outright.proofs.Keeping.{below_choice, either_above}
 

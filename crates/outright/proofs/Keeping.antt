@@ -9,7 +9,7 @@ use Rattle.sheet.specs.Check.{Sound}
 use Rattle.pairing.specs.Above.{entry_above}
 use Rattle.pairing.proofs.Entries.{other_below, other_not_own, mirror_in, mirror_names}
 use Rattle.records.specs.Records.{record_of, state, chosen_place, chosen, RecordsPair}
-use Rattle.records.specs.declared.Record.{Record}
+use Rattle.records.specs.declared.record.Record.{Record}
 use Rattle.outright.specs.Pointing.{Points, Best, Bare, Answered, Kept}
 use Rattle.outright.proofs.Changes.{Now, same, lone, waiting, paired}
 

@@ -4,4 +4,5 @@ pub mod Advancing
 pub mod Meeting
 pub mod Told
 pub mod Running
+pub mod Row
 pub mod Finish

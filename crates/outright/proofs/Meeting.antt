@@ -6,7 +6,7 @@ use Rattle.sheet.proofs.Facts.{fitted_facts}
 use Rattle.pairing.proofs.Entries.{other_below, other_not_own, place_below}
 use Rattle.choosing.specs.Top.{Top}
 use Rattle.records.specs.Records.{state, chosen_place}
-use Rattle.records.specs.declared.Record.{Record}
+use Rattle.records.specs.declared.record.Record.{Record}
 use Rattle.outright.specs.Pointing.{free, Kept}
 use Rattle.outright.specs.Settling.{Ready}
 use Rattle.outright.proofs.Advancing.{room}
@@ -24,11 +24,9 @@ reach atleast t sound rs w kept less = record {
   place = λ one. place_below t sound w (chosen_place t rs w) (kept.best w less (inl one)).within;
 }
 
--- v may be paired with the parcel at its best free entry: both have records of their own, and there is room to list them
+-- v may be paired with the parcel at its best free entry: it is within reach, and there is room to list both
 pub record Meeting {K : Type 0} (t : Graph K) (rs : List Record) (work : List ℕ) (k v p : ℕ) : Type 0 where
   pub reached : Reach t rs (other t p)
-  pub mine : v < length rs
-  pub apart : other t p ≡ v → ⊥
   pub fits : state rs (other t p) ≡ 1 → k + 2 ≤ length work
 
 pub meeting : {K : Type 0} (atleast : K → K → Bool) (t : Graph K) (sound : Sound t) (rs : List Record) (work : List ℕ) (k v p : ℕ)
@@ -40,7 +38,5 @@ meeting atleast t sound rs work k v p ready unpaired top =
     let apart = other_not_own t sound v p top.within in
     record {
       reached = reached;
-      mine = mine;
-      apart = apart;
       fits = λ one. omega (arith, room rs w v reached.its mine apart (λ two. omega (arith, one, two)) unpaired, ready.listing.counted, ready.kept.long, ready.room);
     }

@@ -1,14 +1,13 @@
 -- All parcels settle, and those whose choice was paired away settle again. Assumes nothing.
 use Rattle.std.proofs.Common.{◌≡◌, ℕ, suc, ◌+◌, ◌<◌, ◌≤◌, Bool, cond, eqb, List, [], ◌∷◌, length, get_or, sym, refl, ap, ◌∙◌, subst, inl, ⊎_elim, arith}
-use Rattle.std.proofs.lemmas.List.{get_or_past}
-use Rattle.std.proofs.lemmas.List.Sums.{sum_by-cons, count_by-le-length}
-use Rattle.std.proofs.lemmas.Bool.{cases_eq, cases_lt}
+use Rattle.std.proofs.lemmas.List.Sums.{sum_by-cons}
+use Rattle.std.proofs.lemmas.Bool.{cases_eq}
 use Rattle.ranking.specs.Law.{Lawful}
 use Rattle.sheet.specs.Graph.{Graph, parcels, row_end, other, InRow, mirror}
 use Rattle.sheet.specs.Check.{Sound}
 use Rattle.pairing.proofs.Entries.{mirror_in, mirror_names}
 use Rattle.records.specs.Records.{state, chosen_place, chosen}
-use Rattle.records.specs.declared.Record.{Record}
+use Rattle.records.specs.declared.record.Record.{Record}
 use Rattle.outright.specs.Pointing.{Settled}
 use Rattle.outright.specs.Settling.{paired_count, Ready, Settles, Onward, AllSettled, NoneWaitsAt, AllRenewed}
 use Rattle.outright.proofs.Advancing.{settles_ready, settles_self, settles_onward, leaves, stays_idle, onward_on}
@@ -19,15 +18,6 @@ none_counted (r ∷ rs) idle =
     let f : Record → ℕ = λ x. cond (eqb x.state 2) 1 0 in
     let zero : f r ≡ 0 = ap (λ n. cond {A = ℕ} (eqb n 2) 1 0) (idle 0) in
     omega (arith, sum_by-cons f r rs, none_counted rs (λ u. idle (suc u)))
-
--- a paired parcel is one of the records
-pub paired_within : (rs : List Record) (u : ℕ) → state rs u ≡ 2 → u < length rs
-paired_within rs u two =
-    ⊎_elim (λ less. less) (λ past. absurd (omega (arith, ap (λ (r : Record). r.state) (get_or_past rs u (record { state = 0; choice = 0 }) past), two))) (cases_lt u (length rs))
-
--- the worklist lists no more than the parcels
-pub listed_few : {K : Type 0} (atleast : K → K → Bool) (t : Graph K) (rs : List Record) (work : List ℕ) (k : ℕ) → Ready atleast t rs work k → k ≤ parcels t
-listed_few atleast t rs work k ready = omega (arith, ready.listing.counted, count_by-le-length (λ (r : Record). eqb r.state 2) rs, ready.kept.long)
 
 module _ {K : Type 0} (atleast : K → K → Bool) (t : Graph K) where
   -- the parcels below v have settled, and the others have not begun

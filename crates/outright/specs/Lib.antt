@@ -1,3 +1,4 @@
 pub mod Pointing
 pub mod Settling
 pub mod Outright
+pub mod Working

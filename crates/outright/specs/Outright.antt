@@ -4,7 +4,7 @@ use Rattle.sheet.specs.Graph.{Graph, parcels}
 use Rattle.sheet.specs.Check.{Alike}
 use Rattle.pairing.specs.Above.{greedy_pairing}
 use Rattle.records.specs.Records.{Entire}
-use Rattle.records.specs.declared.Record.{Record}
+use Rattle.records.specs.declared.record.Record.{Record}
 
 -- it refuses a worklist that is shorter than the parcels are many, and then records that are not one for each parcel
 pub data Refused {K : Type 0} (t : Graph K) (rs : List Record) (work : List ℕ) : ℕ → ℕ → Type 0 where

@@ -3,7 +3,7 @@ use Rattle.std.specs.Prelude.{◌≡◌, ℕ, ◌<◌, Bool, true, not, ◌&&◌
 use Rattle.sheet.specs.Graph.{Graph, parcels, other, InRow, mirror}
 use Rattle.pairing.specs.Above.{entry_above}
 use Rattle.records.specs.Records.{state, choice, chosen_place, chosen, RecordsPair}
-use Rattle.records.specs.declared.Record.{Record}
+use Rattle.records.specs.declared.record.Record.{Record}
 
 -- the parcel that stands at place p is not yet paired
 abbrev pub unpaired_at : List ℕ → List Record → ℕ → Bool

@@ -3,7 +3,7 @@ use Rattle.std.specs.Prelude.{◌≡◌, ℕ, ◌+◌, ◌-◌, ◌<◌, ◌≤�
 use Rattle.sheet.specs.Graph.{Graph, parcels, row_start, other, InRow}
 use Rattle.choosing.specs.Top.{Top}
 use Rattle.records.specs.Records.{state, choice, chosen}
-use Rattle.records.specs.declared.Record.{Record}
+use Rattle.records.specs.declared.record.Record.{Record}
 use Rattle.outright.specs.Pointing.{free, Settled, Kept}
 
 -- how many parcels are paired

@@ -1,8 +1,8 @@
 -- The entry that a parcel of a checked sheet chose, and its cents. Assumes nothing.
-use Rattle.std.proofs.Common.{◌≡◌, ℕ, ◌+◌, ◌<◌, true, false, cond, List, [], ◌∷◌, length, get_or, is_some, Some, None, sum_by, Option, sym, refl, ap, ◌∙◌, subst, inl, inr, ⊎_elim, arith}
+use Rattle.std.proofs.Common.{◌≡◌, ℕ, ◌+◌, ◌<◌, true, cond, List, [], ◌∷◌, length, get_or, is_some, Some, None, sum_by, Option, sym, refl, ap, ◌∙◌, subst, inl, inr, ⊎_elim, arith}
 use Rattle.std.proofs.lemmas.Option.{slice_get-get_or}
 use Rattle.std.proofs.lemmas.List.Sums.{sum_by-cons}
-use Rattle.std.proofs.lemmas.Bool.{cond-true, cond-false, cases_Bool}
+use Rattle.std.proofs.lemmas.Bool.{cond-true, cases_Bool}
 use Rattle.ranking.specs.declared.Cents.{Cents}
 use Rattle.matching.specs.Pairs.{Pair, ◌∈◌}
 use Rattle.sheet.specs.Graph.{Graph, InRow}
@@ -16,55 +16,40 @@ use Rattle.sheet.proofs.Held.{held_sound}
 use Rattle.pairing.specs.Pairs.{joint, pair_key}
 use Rattle.pairing.proofs.Members.{joint_up}
 use Rattle.pairing.proofs.Keys.{key_up}
-use Rattle.records.specs.declared.Record.{Record}
+use Rattle.records.specs.declared.record.Record.{Record}
 use Rattle.records.specs.Records.{chosen_place, chosen}
 use Rattle.records.specs.Listed.{pairs_up, partner_above, own_pair, lower_pairs}
 use Rattle.records.proofs.Listing.{up_facts}
 use Rattle.records.proofs.Laws.{pairs_listed}
+use Rattle.results.proofs.Pairs.{share}
 use Rattle.results.specs.Worth.{cents, chosen_cents, pair_cents}
 
 -- whether there is a partner is whether u records such a pair
-pub some_is : {K : Type 0} (t : Graph K) (rs : List Record) (u : ℕ) → is_some (partner_above t rs u) ≡ pairs_up t rs u
+some_is : {K : Type 0} (t : Graph K) (rs : List Record) (u : ℕ) → is_some (partner_above t rs u) ≡ pairs_up t rs u
 some_is t rs u =
     ⊎_elim
     (λ y. ap (λ b. is_some (cond b (Some (chosen t rs u)) None)) y ∙ sym y)
     (λ n. ap (λ b. is_some (cond b (Some (chosen t rs u)) None)) n ∙ sym n)
     (cases_Bool (pairs_up t rs u))
 
--- where the tables hold what is read of that entry
-pub record Readable {K : Type 0} (t : Graph K) (rs : List Record) (u : ℕ) : Type 0 where
-  pub start : u < length t.starts
-  pub recorded : u < length rs
-  pub keyed : chosen_place t rs u < length t.keys
-
-pub readable : {K : Type 0} (s : Sheet K) (rs : List Record) (u : ℕ) → pairs_up (held s) rs u ≡ true → Readable (held s) rs u
-readable s rs u y =
+-- the entry that u chose has a key
+keyed : {K : Type 0} (s : Sheet K) (rs : List Record) (u : ℕ) → pairs_up (held s) rs u ≡ true → chosen_place (held s) rs u < length (held s).keys
+keyed s rs u y =
     let t = held s in
     let fit = fitted_facts t (held_sound s).fitted_right in
     let up = up_facts t rs fit.starts_long u y in
     let row = parcel_facts t u ((held_sound s).parcel u up.parcel) in
-    record { start = omega (arith, up.parcel, fit.starts_long); recorded = up.recorded; keyed = omega (arith, up.within, row.within, fit.keys_long) }
+    omega (arith, up.within, row.within, fit.keys_long)
 
--- the same of the tables that the sheet hands out, where u was found to have a partner
-module _ {K : Type 0} (s : Sheet K) (rs : List Record) (u : ℕ) (r : Option ℕ) (is : r ≡ partner_above (held s) rs u) (some : is_some r ≡ true) where
-  pub found_up : pairs_up (held s) rs u ≡ true
-  found_up = sym (some_is (held s) rs u) ∙ ap is_some (sym is) ∙ some
+-- u was found to have a partner
+pub found_up : {K : Type 0} (t : Graph K) (rs : List Record) (u : ℕ) (r : Option ℕ) → r ≡ partner_above t rs u → is_some r ≡ true → pairs_up t rs u ≡ true
+found_up t rs u r is some = sym (some_is t rs u) ∙ ap is_some (sym is) ∙ some
 
-  pub found_readable : (tables : Tables K) → tables ≡ s.tables → Readable (graph tables) rs u
-  found_readable tables same = subst (λ x. Readable (graph x) rs u) (sym same) (readable s rs u found_up)
-
--- what a parcel adds to the sum
-abbrev pub share : Graph Cents → List Record → ℕ → ℕ
-share t rs u = cond (pairs_up t rs u) (chosen_cents t rs (own_pair t rs u)) 0
-
-pub share_read : (s : Sheet Cents) (rs : List Record) (u : ℕ) (tables : Tables Cents) → tables ≡ s.tables → pairs_up (held s) rs u ≡ true → (get_or (graph tables).keys (chosen_place (graph tables) rs u) (record { 0 = 0 })).0 ≡ share (held s) rs u
+pub share_read : (s : Sheet Cents) (rs : List Record) (u : ℕ) (tables : Tables Cents) → tables ≡ s.tables → pairs_up (held s) rs u ≡ true → (get_or (graph tables).keys (chosen_place (graph tables) rs u) (record { 0 = 0 })).0 ≡ share (held s) rs (chosen_cents (held s) rs) u
 share_read s rs u tables same up =
     let t = held s in
-    subst (λ x. (get_or {A = Cents} (graph x).keys (chosen_place (graph x) rs u) (record { 0 = 0 })).0 ≡ share t rs u) (sym same)
-    (sym (cond-true (pairs_up t rs u) (chosen_cents t rs (own_pair t rs u)) 0 up ∙ ap cents (slice_get-get_or t.keys (chosen_place t rs u) (record { 0 = 0 }) (readable s rs u up).keyed)))
-
-pub share_none : (t : Graph Cents) (rs : List Record) (u : ℕ) (r : Option ℕ) → r ≡ partner_above t rs u → is_some r ≡ false → 0 ≡ share t rs u
-share_none t rs u r is none = sym (cond-false (pairs_up t rs u) (chosen_cents t rs (own_pair t rs u)) 0 (sym (some_is t rs u) ∙ ap is_some (sym is) ∙ none))
+    subst (λ x. (get_or {A = Cents} (graph x).keys (chosen_place (graph x) rs u) (record { 0 = 0 })).0 ≡ share t rs (chosen_cents t rs) u) (sym same)
+    (sym (cond-true (pairs_up t rs u) (chosen_cents t rs (own_pair t rs u)) 0 up ∙ ap cents (slice_get-get_or t.keys (chosen_place t rs u) (record { 0 = 0 }) (keyed s rs u up))))
 
 -- two measures that agree on the pairs of a list have one sum there
 sum_same : (f g : Pair → ℕ) (ps : List Pair) → ((p : Pair) → p ∈ ps → f p ≡ g p) → sum_by f ps ≡ sum_by g ps

@@ -1,5 +1,5 @@
 pub mod Chosen
 pub mod Put
-pub mod Digits
 pub mod Lines
 pub mod Pairs
+pub mod Sums

@@ -1,25 +1,42 @@
--- A line of numbers, one number after another. Assumes nothing.
-use Rattle.std.proofs.Common.{◌≡◌, ℕ, ◌+◌, ◌<◌, ◌≤◌, List, [], ◌++◌, length, get_or, drop, decimal, sym, ap, arith}
-use Rattle.std.proofs.lemmas.List.{drop_more, drop_all, length-append, length_push}
+-- A line of numbers: how long it is, and its last number apart from the others. Assumes nothing.
+use Rattle.std.proofs.Common.{◌≡◌, ℕ, ◌+◌, ◌<◌, ◌≤◌, List, [], ◌∷◌, ◌++◌, length, get_or, take, decimal, sum_by, sym, refl, ap, ◌∙◌, append_assoc, arith}
+use Rattle.std.specs.List.{flat_map}
+use Rattle.std.proofs.lemmas.List.{length-append, length_push, append-nil, take_more, flat_map_more}
+use Rattle.std.proofs.lemmas.List.Sums.{sum_by-cons}
+use Rattle.std.proofs.lemmas.List.Folds.{length-flat_map-take}
 use Rattle.results.specs.Text.{field, mark, line}
 
 pub length_field : (n after : ℕ) → length (field n after) ≡ length (decimal n) + 1
 length_field n after = length_push (decimal n) after
 
-module _ (ns : List ℕ) (i : ℕ) where
-  pub mark_more : i < length ns → 44 ≡ mark (drop i ns)
-  mark_more less = sym (ap mark (drop_more ns i 0 less))
+pub line_length : (ns : List ℕ) → sum_by (λ n. length (decimal n) + 1) ns ≡ length (line ns)
+line_length [] = refl
+line_length (n ∷ ns) = omega (
+  arith,
+  sum_by-cons (λ m. length (decimal m) + 1) n ns,
+  line_length ns,
+  length-append (field n (mark ns)) (line ns),
+  length_field n (mark ns),
+)
 
-  pub mark_none : length ns ≤ i → 10 ≡ mark (drop i ns)
-  mark_none past = sym (ap mark (drop_all i ns past))
+-- the fields of these numbers, each ended by a comma
+abbrev pub fields : List ℕ → List ℕ
+fields = flat_map (λ n. field n 44)
 
-  pub line_more : i < length ns → line (drop i ns) ≡ field (get_or ns i 0) (mark (drop (i + 1) ns)) ++ line (drop (i + 1) ns)
-  line_more less = ap line (drop_more ns i 0 less)
+mark_push : (ns : List ℕ) (last : ℕ) → mark (ns ++ last ∷ []) ≡ 44
+mark_push [] last = refl
+mark_push (n ∷ ns) last = refl
 
-  pub line_none : length ns ≤ i → line (drop i ns) ≡ []
-  line_none past = ap line (drop_all i ns past)
+pub line_push : (ns : List ℕ) (last : ℕ) → line (ns ++ last ∷ []) ≡ fields ns ++ field last 10
+line_push [] last = append-nil (field last 10)
+line_push (n ∷ ns) last =
+    ap (λ after. field n after ++ line (ns ++ last ∷ [])) (mark_push ns last)
+    ∙ ap (λ rest. field n 44 ++ rest) (line_push ns last)
+    ∙ sym (append_assoc (field n 44) (fields ns) (field last 10))
 
-  pub length_line_more : i < length ns → length (line (drop i ns)) ≡ length (decimal (get_or ns i 0)) + 1 + length (line (drop (i + 1) ns))
-  length_line_more less =
-      let after = mark (drop (i + 1) ns) in
-      omega (arith, ap length (line_more less), length-append (field (get_or ns i 0) after) (line (drop (i + 1) ns)), length_field (get_or ns i 0) after)
+module _ (ns : List ℕ) (i : ℕ) (inside : i < length ns) where
+  pub fields_more : fields (take (i + 1) ns) ≡ fields (take i ns) ++ field (get_or ns i 0) 44
+  fields_more = ap fields (take_more ns i 0 inside) ∙ sym (flat_map_more (λ n. field n 44) [] (take i ns) (get_or ns i 0))
+
+  pub fields_fit : length (fields (take i ns)) + length (field (get_or ns i 0) 44) ≤ length (fields ns)
+  fields_fit = length-flat_map-take (λ n. field n 44) ns i 0 inside

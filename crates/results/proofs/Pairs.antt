@@ -1,13 +1,14 @@
 -- The lines of the recorded pairs, one parcel after another. Assumes nothing.
-use Rattle.std.proofs.Common.{◌≡◌, ℕ, zero, suc, ◌+◌, ◌-◌, ◌≤◌, List, [], ◌∷◌, ◌++◌, length, Some, None, sym, ap, ◌∙◌, subst, ⊎_elim, arith}
-use Rattle.std.specs.List.{flat_map}
-use Rattle.std.proofs.lemmas.List.{flat_map_more, length-append}
+use Rattle.std.proofs.Common.{◌≡◌, ℕ, zero, suc, ◌+◌, ◌-◌, ◌≤◌, cond, List, [], ◌∷◌, ◌++◌, length, Some, None, sum_by, sym, refl, ap, ◌∙◌, subst, add-one, ⊎_elim, arith}
+use Rattle.std.specs.List.{flat_map, range_with_len}
+use Rattle.std.proofs.lemmas.List.{flat_map_more, length-append, map-id}
+use Rattle.std.proofs.lemmas.List.FromFn.{sum_by-map-range_with_len_more}
 use Rattle.std.proofs.lemmas.Bool.{cases_Bool}
 use Rattle.matching.specs.Pairs.{Pair}
 use Rattle.sheet.specs.Graph.{Graph}
-use Rattle.records.specs.declared.Record.{Record}
+use Rattle.records.specs.declared.record.Record.{Record}
 use Rattle.records.specs.Listed.{pairs_up, partner_above, own_pair, pairs_below}
-use Rattle.records.proofs.Listing.{pairs_more_yes, pairs_more_no, pairs_more_some, pairs_more_none}
+use Rattle.records.proofs.Listing.{sum_more, pairs_more_yes, pairs_more_no, pairs_more_some, pairs_more_none}
 use Rattle.results.specs.Text.{pair_line}
 
 module _ {K : Type 0} (t : Graph K) (rs : List Record) where
@@ -39,3 +40,22 @@ module _ {K : Type 0} (t : Graph K) (rs : List Record) where
 
   pub lines_longer : (u n : ℕ) → u ≤ n → length (lines_below u) ≤ length (lines_below n)
   lines_longer u n less = let e : u + (n - u) ≡ n = omega arith in subst (λ m. length (lines_below u) ≤ length (lines_below m)) e (longer_by (n - u) u)
+
+  -- what parcel u adds to a sum over the recorded pairs
+  abbrev pub share : (Pair → ℕ) → ℕ → ℕ
+  share f u = cond (pairs_up t rs u) (f (own_pair t rs u)) 0
+
+  -- summed over the parcels, that is the sum over the pairs
+  pub shares_summed : (f : Pair → ℕ) (n : ℕ) → sum_by (share f) (range_with_len 0 n) ≡ sum_by f (pairs_below t rs n)
+  shares_summed f zero = refl
+  shares_summed f (suc n) =
+      let us = range_with_len 0 in
+      subst (λ k. sum_by (share f) (us k) ≡ sum_by f (pairs_below t rs k)) (add-one n)
+      (omega (
+        arith,
+        ap (sum_by (share f)) (map-id (us n)),
+        ap (sum_by (share f)) (map-id (us (n + 1))),
+        sum_by-map-range_with_len_more (share f) (λ u. u) 0 n n (omega arith),
+        shares_summed f n,
+        sum_more t rs f n,
+      ))

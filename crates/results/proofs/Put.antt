@@ -1,11 +1,9 @@
 -- Bytes put into a buffer, one part after another. Assumes nothing.
-use Rattle.std.proofs.Common.{◌≡◌, ℕ, ◌+◌, ◌<◌, ◌≤◌, List, [], ◌∷◌, ◌++◌, length, take, drop, set, sym, ap, ◌∙◌, append_assoc, add-zero, zero-add, add-one, arith}
-use Rattle.std.proofs.lemmas.List.{length-append, length-drop, length-take-le, take_at, drop_at, drop-drop, set_split, take-append-drop}
+use Rattle.std.proofs.Common.{◌≡◌, ℕ, ◌+◌, ◌≤◌, List, [], ◌++◌, length, take, drop, sym, refl, ap, ◌∙◌, append_assoc, add-zero, zero-add, arith}
+use Rattle.std.proofs.lemmas.List.{length-append, length-drop, length-take-le, take_at, drop_at, drop-drop, take-append-drop}
+use Rattle.results.specs.declared.writer.Writer.{Writer}
 use Rattle.results.specs.Text.{put_in}
-
--- one byte
-pub put_one : (b : List ℕ) (at y : ℕ) → at < length b → set b at y ≡ put_in b at (y ∷ [])
-put_one b at y within = set_split b at y within ∙ ap (λ p. take at b ++ y ∷ drop p b) (sym (add-one at))
+use Rattle.results.specs.Writing.{RoomFor, Wrote}
 
 -- nothing
 pub put_none : (b : List ℕ) (at : ℕ) → put_in b at [] ≡ b
@@ -39,11 +37,29 @@ module _ (b : List ℕ) (at : ℕ) (x : List ℕ) (fits : at + length x ≤ leng
       ∙ append_assoc (take at b) x (y ++ drop (at + length (x ++ y)) b)
       ∙ ap (λ r. take at b ++ r) (sym (append_assoc x y (drop (at + length (x ++ y)) b)))
 
--- two parts at the front
-pub put_front : (b x y mid new : List ℕ) (at count : ℕ) → length x ≤ length b → mid ≡ put_in b 0 x → at ≡ 0 + length x → new ≡ put_in mid at y → count ≡ length (x ++ y) → new ≡ (x ++ y) ++ drop count b
-put_front b x y mid new at count fits first from second is =
-    second
-    ∙ ap (λ m. put_in m at y) first
-    ∙ ap (λ p. put_in (put_in b 0 x) p y) from
-    ∙ put_put b 0 x (omega arith) y
-    ∙ ap (λ p. (x ++ y) ++ drop p b) (zero-add (length (x ++ y)) ∙ sym is)
+-- all of it at the front
+pub put_front : (old x written new : List ℕ) (count : ℕ) → new ≡ written → written ≡ put_in old 0 x → count ≡ length x → new ≡ x ++ drop count old
+put_front old x written new count same is long = same ∙ is ∙ ap (λ p. x ++ drop p old) (zero-add (length x) ∙ sym long)
+
+pub wrote_none : (w : Writer) → Wrote w w []
+wrote_none w = record { same_reference = refl; count = omega arith; bytes = sym (put_none w.buffer.now w.count) }
+
+module _ (a b : Writer) (x y : List ℕ) (wrote : Wrote a b x) (room : RoomFor a (x ++ y)) where
+  fits : a.count + length x ≤ length a.buffer.now
+  fits = omega (arith, room, length-append x y)
+
+  -- what was to come after x still fits
+  pub room_left : RoomFor b y
+  room_left = omega (arith, room, length-append x y, wrote.count, ap length wrote.bytes, put_length a.buffer.now a.count x fits)
+
+  -- one part more
+  pub wrote_more : (c : Writer) → Wrote b c y → Wrote a c (x ++ y)
+  wrote_more c more = record {
+    same_reference = more.same_reference ∙ wrote.same_reference;
+    count = omega (arith, more.count, wrote.count, length-append x y);
+    bytes =
+        more.bytes
+        ∙ ap (λ m. put_in m b.count y) wrote.bytes
+        ∙ ap (λ p. put_in (put_in a.buffer.now a.count x) p y) wrote.count
+        ∙ put_put a.buffer.now a.count x fits y;
+  }

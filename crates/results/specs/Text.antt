@@ -3,8 +3,8 @@ use Rattle.std.specs.Prelude.{◌≡◌, ℕ, ◌+◌, ◌<◌, ◌≤◌, List,
 use Rattle.std.specs.List.{flat_map}
 use Rattle.matching.specs.Pairs.{Pair}
 use Rattle.sheet.specs.Graph.{Graph}
-use Rattle.records.specs.declared.Record.{Record}
-use Rattle.records.specs.declared.Totals.{Totals}
+use Rattle.records.specs.declared.record.Record.{Record}
+use Rattle.records.specs.declared.ledger.Totals.{Totals}
 use Rattle.records.specs.Listed.{lower_pairs}
 use Rattle.records.specs.Right.{Right, Refused}
 

@@ -4,7 +4,7 @@ use Rattle.ranking.specs.declared.Cents.{Cents}
 use Rattle.matching.specs.Pairs.{Pair}
 use Rattle.pairing.specs.Pairs.{pair_key}
 use Rattle.sheet.specs.Graph.{Graph, key}
-use Rattle.records.specs.declared.Record.{Record}
+use Rattle.records.specs.declared.record.Record.{Record}
 use Rattle.records.specs.Records.{chosen_place}
 use Rattle.records.specs.Listed.{lower_pairs}
 use Rattle.records.specs.Right.{Right}

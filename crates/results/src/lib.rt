@@ -4,9 +4,9 @@
 ghost use Rattle.results.specs.Example.{RowOfFour};
 ghost use Rattle.results.specs.Numbers.{ReadsBack};
 
-mod numbers;
 mod printing;
 mod worth_of;
+mod writer;
 
 pub use printing::result_text;
 pub use worth_of::worth;

@@ -5,7 +5,7 @@
 mod tests {
     use faults::Fault;
     use ranking::Cents;
-    use records::{LONE, PAIRED, Record, Tally, Totals, count, partner_above, try_records};
+    use records::{Ledger, Record, State, Tally, Totals};
     use results::{result_text, worth};
     use sheet::{Sheet, Tables, check as check_sheet};
     use std::test::Fail;
@@ -20,22 +20,18 @@ mod tests {
 
     static EDITIONS: [u16; 4] = [21, 21, 21, 21];
 
-    const ALONE: Record = Record {
-        state: LONE,
-        choice: 0,
-    };
     // The middle two are paired, the others lone.
     const MIDDLE: [Record; 4] = [
-        ALONE,
+        Record::LONE,
         Record {
-            state: PAIRED,
+            state: State::Paired as u8,
             choice: 1,
         },
         Record {
-            state: PAIRED,
+            state: State::Paired as u8,
             choice: 0,
         },
-        ALONE,
+        Record::LONE,
     ];
 
     const TOTALS: Totals = Totals {
@@ -58,15 +54,41 @@ mod tests {
         check_sheet(sheet, tables)
     }
 
+    // What is refused, in numbers.
+    fn numbered<T>(answer: Result<T, Fault>) -> Result<T, (u32, u32)> {
+        answer.map_err(|fault| (u32::from(fault.0), fault.1))
+    }
+
+    fn worth_of(sheet: &Sheet<Cents>, records: &[Record]) -> Result<u64, (u32, u32)> {
+        numbered(worth(Ledger { sheet, records }))
+    }
+
+    fn printed(
+        sheet: &Sheet<Cents>,
+        records: &[Record],
+        totals: Totals,
+        buffer: &mut [u8],
+    ) -> Result<usize, (u32, u32)> {
+        numbered(result_text(Ledger { sheet, records }, totals, buffer))
+    }
+
+    fn tried(sheet: &Sheet<Cents>, records: &[Record]) -> Result<(), (u32, u32)> {
+        numbered(Ledger { sheet, records }.try_records())
+    }
+
     #[test]
     fn counts_and_sums(rt: HostRuntime) -> Result<(), Fail> {
         let mut sheet = Sheet::empty();
         row_of_four(&mut sheet)?;
-        assert!(rt; count(&sheet, &MIDDLE) == Tally { pairs: 1, lone: 2 });
-        assert_eq!(rt; partner_above(&sheet, &MIDDLE, 1), Some(2));
-        assert_eq!(rt; partner_above(&sheet, &MIDDLE, 2), None);
-        assert_eq!(rt; partner_above(&sheet, &MIDDLE, 4), None);
-        assert_eq!(rt; worth(&sheet, &MIDDLE), Ok(9));
+        let ledger = Ledger {
+            sheet: &sheet,
+            records: &MIDDLE,
+        };
+        assert!(rt; ledger.count() == Tally { pairs: 1, lone: 2 });
+        assert_eq!(rt; ledger.partner_above(1), Some(2));
+        assert_eq!(rt; ledger.partner_above(2), None);
+        assert_eq!(rt; ledger.partner_above(4), None);
+        assert_eq!(rt; worth_of(&sheet, &MIDDLE), Ok(9));
         Ok(())
     }
 
@@ -75,16 +97,13 @@ mod tests {
         let mut sheet = Sheet::empty();
         row_of_four(&mut sheet)?;
         let mut exact = [b'.'; 13];
-        assert_eq!(rt; result_text(&sheet, &MIDDLE, TOTALS, &mut exact), Ok(13));
+        assert_eq!(rt; printed(&sheet, &MIDDLE, TOTALS, &mut exact), Ok(13));
         assert_eq!(rt; exact, *b"1,2,6,10\n1,2\n");
         let mut longer = [b'.'; 15];
-        assert_eq!(rt; result_text(&sheet, &MIDDLE, TOTALS, &mut longer), Ok(13));
+        assert_eq!(rt; printed(&sheet, &MIDDLE, TOTALS, &mut longer), Ok(13));
         assert_eq!(rt; longer, *b"1,2,6,10\n1,2\n..");
         let mut short = [b'.'; 12];
-        assert_eq!(rt;
-            result_text(&sheet, &MIDDLE, TOTALS, &mut short),
-            Err((3, 0))
-        );
+        assert_eq!(rt; printed(&sheet, &MIDDLE, TOTALS, &mut short), Err((3, 0)));
         assert_eq!(rt; short, [b'.'; 12]);
         Ok(())
     }
@@ -100,9 +119,9 @@ mod tests {
             turns: 9,
         };
         let mut text = [b'.'; 26];
-        assert_eq!(rt; result_text(&sheet, &[], totals, &mut text), Ok(26));
+        assert_eq!(rt; printed(&sheet, &[], totals, &mut text), Ok(26));
         assert_eq!(rt; text, *b"4294967295,0,4294967295,9\n");
-        assert_eq!(rt; worth(&sheet, &[]), Ok(0));
+        assert_eq!(rt; worth_of(&sheet, &[]), Ok(0));
     }
 
     #[test]
@@ -110,27 +129,35 @@ mod tests {
         let mut sheet = Sheet::empty();
         row_of_four(&mut sheet)?;
         let mut none = [];
-        assert_eq!(rt; try_records(&sheet, &[ALONE, ALONE, ALONE]), Err((12, 0)));
-        assert_eq!(rt; worth(&sheet, &[]), Err((12, 0)));
-        assert_eq!(rt; result_text(&sheet, &[], TOTALS, &mut none), Err((12, 0)));
+        assert_eq!(rt;
+            tried(&sheet, &[Record::LONE, Record::LONE, Record::LONE]),
+            Err((12, 0))
+        );
+        assert_eq!(rt; worth_of(&sheet, &[]), Err((12, 0)));
+        assert_eq!(rt; printed(&sheet, &[], TOTALS, &mut none), Err((12, 0)));
         let unknown = Record {
             state: 4,
             choice: 0,
         };
         let past_row = Record {
-            state: PAIRED,
+            state: State::Paired as u8,
             choice: 2,
         };
         assert_eq!(rt;
-            try_records(&sheet, &[ALONE, past_row, unknown, ALONE]),
+            tried(&sheet, &[Record::LONE, past_row, unknown, Record::LONE]),
             Err((16, 1))
         );
         assert_eq!(rt;
-            worth(&sheet, &[ALONE, ALONE, unknown, ALONE]),
+            worth_of(&sheet, &[Record::LONE, Record::LONE, unknown, Record::LONE]),
             Err((16, 2))
         );
         assert_eq!(rt;
-            result_text(&sheet, &[ALONE, ALONE, ALONE, unknown], TOTALS, &mut none),
+            printed(
+                &sheet,
+                &[Record::LONE, Record::LONE, Record::LONE, unknown],
+                TOTALS,
+                &mut none
+            ),
             Err((16, 3))
         );
         Ok(())
