@@ -2,7 +2,7 @@
 use Rattle.std.proofs.Common.{◌≡◌, ℕ, ◌<◌, Bool, true, false, cond, not, ◌||◌, eqb, ltb, ◌⊎◌, List, length, get_or, Some, None, unwrap_or, ap, inl, inr, ⊎_elim}
 use Rattle.std.proofs.lemmas.Bool.{or_parts, or_cases, not-false, ltb-true, eqb-true, and_from, eq-eqb, lt-ltb}
 use Rattle.line.specs.declared.Note.{Note}
-use Rattle.records.specs.declared.Record.{Record}
+use Rattle.records.specs.declared.record.Record.{Record}
 use Rattle.records.specs.Records.{astray, strays_at}
 use Rattle.sheet.specs.Graph.{Graph, InRow, parcels, row_end, place_of}
 use Rattle.sheet.specs.Check.{Sound}

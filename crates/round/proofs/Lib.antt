@@ -7,3 +7,4 @@ pub mod Coming
 pub mod Handed
 pub mod Sent
 pub mod Ended
+pub mod Begun

@@ -1,5 +1,6 @@
 -- One place more of a row, as a loop goes through it. Assumes nothing.
 use Rattle.std.proofs.Common.{◌≡◌, ℕ, zero, suc, ◌+◌, ◌-◌, ◌≤◌, Bool, true, false, cond, List, [], ◌∷◌, ◌++◌, length, filter, sym, refl, ap, ◌∙◌, subst, arith}
+use Rattle.std.specs.List.{range_with_len}
 use Rattle.std.specs.List.Sorted.{IsPermutation}
 use Rattle.std.proofs.lemmas.List.Elements.{filter-append}
 use Rattle.std.proofs.lemmas.List.{length-append, append-nil}
@@ -21,6 +22,11 @@ places_to start q low =
     let e : q + 1 - start ≡ q - start + 1 = omega arith in
     let f : start + (q - start) ≡ q = omega arith in
     ap (λ n. places_from n start) e ∙ places_more (q - start) start ∙ ap (λ x. places_from (q - start) start ++ x ∷ []) f
+
+-- the places are the numbers of a range
+pub places_are : (k p : ℕ) → places_from k p ≡ range_with_len p k
+places_are zero p = refl
+places_are (suc k) p = ap (λ l. p ∷ l) (places_are k (suc p) ∙ ap (λ q. range_with_len q k) (let e : suc p ≡ p + 1 = omega arith in e))
 
 module _ (test : ℕ → Bool) where
   -- those that pass, with one place more

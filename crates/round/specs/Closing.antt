@@ -1,8 +1,9 @@
 -- Opening and closing a round: what each answers. Assumes nothing.
 use Rattle.std.specs.Prelude.{◌≡◌, ℕ, ◌<◌, ◌≤◌, true, false, ◌⊎◌, List, [], length, Some, None, Option, ◌≢◌}
 use Rattle.line.specs.declared.Note.{Note}
-use Rattle.records.specs.declared.Record.{Record}
-use Rattle.records.specs.declared.Totals.{Totals}
+use Rattle.records.specs.declared.record.Record.{Record}
+use Rattle.records.specs.declared.ledger.Tally.{Tally}
+use Rattle.records.specs.declared.ledger.Totals.{Totals}
 use Rattle.records.specs.Records.{state}
 use Rattle.records.specs.Right.{Right, FirstAstray}
 use Rattle.records.specs.Listed.{lower_pairs, lone_count}
@@ -35,6 +36,11 @@ pub record Closable {K : Type 0} (t : Graph K) (w : World) : Type 0 where
   pub fitting : fits t w ≡ true
   pub right : Right t w.records
   pub settled : Settled t w
+
+-- the recorded pairs and lone parcels, counted
+pub record Counts {K : Type 0} (t : Graph K) (rs : List Record) (x : Tally) : Type 0 where
+  pub pairs : x.pairs ≡ length (lower_pairs t rs)
+  pub lone : x.lone ≡ lone_count t rs
 
 -- close answers the pairs made, the lone parcels, the notes sent and the accepted turns
 pub record Closed {K : Type 0} (t : Graph K) (w : World) (x : Totals) : Type 0 where

@@ -1,8 +1,10 @@
 -- The parts of a turn. Assumes nothing.
 use Rattle.std.specs.Prelude.{◌≡◌, ℕ, ◌+◌, ◌-◌, ◌<◌, ◌≤◌, Bool, true, false, ◌&&◌, List, ◌∷◌, ◌++◌, length, Some, None, Option, ◌==◌, slice_index, slice_set}
 use Rattle.std.specs.List.Sorted.{IsPermutation}
+use Rattle.line.specs.declared.Kind.{Kind}
 use Rattle.line.specs.declared.Note.{Note}
-use Rattle.records.specs.declared.Record.{Record}
+use Rattle.line.specs.Kinds.{code}
+use Rattle.records.specs.declared.record.Record.{Record}
 use Rattle.sheet.specs.Graph.{Graph, InRow, parcels, entries}
 use Rattle.choosing.specs.Top.{Top}
 use Rattle.protocol.specs.Marks.{open', bidden, open_others, drop, strike}
@@ -47,6 +49,11 @@ abbrev pub tables_fit : {K : Type 0} → Graph K → Round → List Record → L
 tables_fit t round rs m =
     (length rs == parcels t) && (length m == entries t && (round.parcels == parcels t && (round.entries == entries t && round.stores == t.limit)))
 
+-- a parcel in this state cannot start: it has started, or its record is out of range
+pub data Unstartable (s : ℕ) : ℕ → Type 0 where
+  has_started : 1 ≤ s → s ≤ 3 → Unstartable s 13
+  out_of_range : 3 < s → Unstartable s 16
+
 -- both counts of a round went on
 pub record Counted (before after : Round) (sent : ℕ) : Type 0 where
   pub parcels : after.parcels ≡ before.parcels
@@ -55,10 +62,10 @@ pub record Counted (before after : Round) (sent : ℕ) : Type 0 where
   pub turns : after.turns ≡ counted before.turns 1
   pub sent' : after.sent ≡ counted before.sent sent
 
--- the addressee's entry for the sender, if a note can come to store s
-abbrev pub ComesTo : {K : Type 0} → (K → K → Bool) → Graph K → ℕ → Note → Option ℕ → Type 0
+-- what a note says and the addressee's entry for the sender, if the note can come to store s
+abbrev pub ComesTo : {K : Type 0} → (K → K → Bool) → Graph K → ℕ → Note → Option (Kind × ℕ) → Type 0
 ComesTo atleast t s n None = stray atleast t s n ≡ true
-ComesTo atleast t s n (Some p) = (stray atleast t s n ≡ false) × (p ≡ entry_of t n)
+ComesTo atleast t s n (Some x) = (stray atleast t s n ≡ false) × (code x.0 ≡ n.kind) × (x.1 ≡ entry_of t n)
 
 -- the note was taken and received, and what that sent is on the line
 pub record Took {K : Type 0} (atleast : K → K → Bool) (t : Graph K) (n : Note) (r : Record) (m : List ℕ) (r' : Record) (m' : List ℕ) (before after : List Note) (free count : ℕ) : Type 0 where

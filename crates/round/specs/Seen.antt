@@ -1,7 +1,7 @@
 -- What the calls of a round see. Assumes nothing.
 use Rattle.std.specs.Prelude.{ℕ, List, Option}
 use Rattle.line.specs.declared.Note.{Note}
-use Rattle.records.specs.declared.Record.{Record}
+use Rattle.records.specs.declared.record.Record.{Record}
 use Rattle.protocol.specs.World.{World}
 use Rattle.round.specs.declared.state.Round.{Round}
 

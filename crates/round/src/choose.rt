@@ -2,15 +2,18 @@ ghost use Rattle.std.specs.Prelude.{◌≡◌, ℕ, ◌+◌, ◌-◌, ◌<◌, �
 ghost use Rattle.std.specs.List.Sorted.{IsPermutation};
 ghost use Rattle.sheet.specs.Graph.{InRow, parcels, entries, row_start, row_end};
 ghost use Rattle.sheet.specs.Held.{held};
+ghost use Rattle.line.specs.Kinds as kinds;
+ghost use Rattle.records.specs.States as states;
 ghost use Rattle.protocol.specs.Marks.{open', open_others, note_along};
 ghost use Rattle.protocol.specs.Steps.{with_choice};
 ghost use Rattle.round.specs.Parts.{Planned, sends, DroppedOne, LetGo, Chose};
 
 use choosing::{Candidates, top_entry};
-use line::{BID, DROP, Line, Note};
+use line::{Kind, Line, Note};
 use ranking::Ranking;
-use records::{LONE, PAIRED, Record, WAITS};
+use records::{Record, State};
 use sheet::Sheet;
+use std::ops::Range;
 
 /// The bit of a mark that says that the entry is struck.
 pub const STRUCK: u8 = 1;
@@ -40,19 +43,19 @@ pub(crate) enum Plan {
     Pairs(usize, u32),
 }
 
-// The places of a parcel's row: from the first up to, not including, the second.
-pub(crate) fn row<K: Copy>(sheet: &Sheet<K>, u: usize) -> (usize, usize)
+// The places of a parcel's row.
+pub(crate) fn row<K: Copy>(sheet: &Sheet<K>, u: usize) -> Range<usize>
     requires { u < parcels (held sheet.now) }
-    ensures { (result.0 ≡ row_start (held sheet.now) u) × (result.1 ≡ row_end (held sheet.now) u) }
+    ensures { (result.start ≡ row_start (held sheet.now) u) × (result.end ≡ row_end (held sheet.now) u) }
 {
     let starts = sheet.tables().starts;
-    (starts[u] as usize, starts[u + 1] as usize)
+    starts[u] as usize..starts[u + 1] as usize
 }
 
 // A note along the entry at place `p` of row `u`.
-fn note_along<K: Copy>(sheet: &Sheet<K>, kind: u8, u: usize, p: usize) -> Note
+fn note_along<K: Copy>(sheet: &Sheet<K>, kind: Kind, u: usize, p: usize) -> Note
     requires { InRow (held sheet.now) u p }
-    ensures { result ≡ note_along (held sheet.now) kind u p }
+    ensures { result ≡ note_along (held sheet.now) (kinds.code kind) u p }
 {
     let tables = sheet.tables();
     let addressee = tables.others[p];
@@ -60,15 +63,15 @@ fn note_along<K: Copy>(sheet: &Sheet<K>, kind: u8, u: usize, p: usize) -> Note
         sender: u as u32,
         addressee,
         store: tables.stores[addressee as usize],
-        kind,
+        kind: u8::from(kind),
     }
 }
 
 // Sends a note along the entry at place `p` of row `u`, for which there is room.
-fn send<K: Copy, L: Line>(sheet: &Sheet<K>, line: &mut L, kind: u8, u: usize, p: usize)
+fn send<K: Copy, L: Line>(sheet: &Sheet<K>, line: &mut L, kind: Kind, u: usize, p: usize)
     requires within { InRow (held sheet.now) u p }
     requires room { length (L.Line.waiting line.old) < L.Line.capacity line.old }
-    ensures notes { IsPermutation (note_along (held sheet.now) kind u p ∷ L.Line.waiting line.old) (L.Line.waiting line.new) }
+    ensures notes { IsPermutation (note_along (held sheet.now) (kinds.code kind) u p ∷ L.Line.waiting line.old) (L.Line.waiting line.new) }
     ensures size { L.Line.capacity line.new ≡ L.Line.capacity line.old }
 {
     let _ = line.put(note_along(sheet, kind, u, p));
@@ -93,14 +96,8 @@ pub(crate) fn count_open_others<K: Copy>(
     requires long { length marks.now ≡ entries (held sheet.now) }
     ensures { result ≡ length (open_others (held sheet.now) marks.now u keep) }
 {
-    let (start, end) = row(sheet, u);
-    let mut count = 0;
-    for q in start..end {
-        if other_open(marks, q, keep) {
-            count += 1;
-        }
-    }
-    count
+    let others = row(sheet, u).filter(|q| other_open(marks, *q, keep));
+    others.count() as u32
 }
 
 // Sends a drop along the entry at place `q` and strikes it, if it is open and not the one at `keep`.
@@ -119,7 +116,7 @@ fn drop_other<K: Copy, L: Line>(
     ensures size { L.Line.capacity line.new ≡ L.Line.capacity line.old }
 {
     if other_open(marks, q, keep) {
-        send(sheet, line, DROP, u, q);
+        send(sheet, line, Kind::Drop, u, q);
         marks[q] |= STRUCK;
     }
 }
@@ -138,8 +135,7 @@ pub(crate) fn let_go<K: Copy, L: Line>(
     ensures done { LetGo (held sheet.now) u keep marks.old marks.new (L.Line.waiting line.old) (L.Line.waiting line.new) }
     ensures size { L.Line.capacity line.new ≡ L.Line.capacity line.old }
 {
-    let (start, end) = row(sheet, u);
-    for q in start..end {
+    for q in row(sheet, u) {
         drop_other(sheet, marks, line, u, keep, q);
     }
 }
@@ -171,15 +167,11 @@ pub(crate) fn sending(plan: &Plan) -> u32
 }
 
 // The record of a parcel of this state that chose the entry at place `p` of its row.
-pub(crate) fn with_choice<K: Copy>(sheet: &Sheet<K>, state: u8, u: usize, p: usize) -> Record
+pub(crate) fn with_choice<K: Copy>(sheet: &Sheet<K>, state: State, u: usize, p: usize) -> Record
     requires { InRow (held sheet.now) u p }
-    ensures { result ≡ with_choice (held sheet.now) state u p }
+    ensures { result ≡ with_choice (held sheet.now) (states.code state) u p }
 {
-    let (start, _) = row(sheet, u);
-    Record {
-        state,
-        choice: (p - start) as u32,
-    }
+    Record::new(state, (p - row(sheet, u).start) as u32)
 }
 
 // Carries out a plan for which there is room: what it sends goes on the line. Answers the parcel's record.
@@ -198,18 +190,15 @@ pub(crate) fn carry_out<K: Ranking, L: Line>(
     ensures size { L.Line.capacity line.new ≡ L.Line.capacity line.old }
 {
     match plan {
-        Plan::Alone => Record {
-            state: LONE,
-            choice: 0,
-        },
+        Plan::Alone => Record::LONE,
         Plan::Waits(p) => {
-            send(sheet, line, BID, u, p);
-            with_choice(sheet, WAITS, u, p)
+            send(sheet, line, Kind::Bid, u, p);
+            with_choice(sheet, State::Waits, u, p)
         }
         Plan::Pairs(p, _) => {
-            send(sheet, line, BID, u, p);
+            send(sheet, line, Kind::Bid, u, p);
             let_go(sheet, marks, line, u, p);
-            with_choice(sheet, PAIRED, u, p)
+            with_choice(sheet, State::Paired, u, p)
         }
     }
 }

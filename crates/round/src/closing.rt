@@ -1,42 +1,21 @@
 ghost use Rattle.std.specs.Prelude.{◌≡◌, ℕ, ◌<◌, ◌≤◌, List, [], length, Some, None, Ok, Err, Decides, slice_index};
-ghost use Rattle.records.specs.Records.{record_of};
+ghost use Rattle.faults.specs.Numbers.{number};
 ghost use Rattle.records.specs.Right.{Right};
 ghost use Rattle.sheet.specs.Check.{Alike};
 ghost use Rattle.sheet.specs.Graph.{parcels};
 ghost use Rattle.sheet.specs.Held.{held};
 ghost use Rattle.protocol.specs.History.{Opened, Call, After};
 ghost use Rattle.protocol.specs.Law.{Law};
-ghost use Rattle.round.specs.Closing.{OpenRefused, CloseRefused, Closable, Closed, FirstUndecided};
+ghost use Rattle.round.specs.Closing.{OpenRefused, CloseRefused, Closable, Counts, Closed, FirstUndecided};
 ghost use Rattle.round.specs.Seen.{world};
 
 use crate::starting::fits_sheet;
 use crate::state::Round;
-use faults::{Fault, LINE_UNFIT, UNSETTLED, WRONG_LENGTH};
+use faults::{Fault, Refusal};
 use line::Line;
 use ranking::Ranking;
-use records::{IDLE, Record, Totals, WAITS, count, try_records};
+use records::{Ledger, Record, State, Tally, Totals, clear_records};
 use sheet::Sheet;
-
-// Makes every parcel idle.
-fn clear_records(records: &mut [Record])
-    ensures { (u : ℕ) → record_of records.new u ≡ record { state = 0; choice = 0 } }
-{
-    for r in records.iter_mut() {
-        *r = Record {
-            state: IDLE,
-            choice: 0,
-        };
-    }
-}
-
-// Clears every mark.
-fn clear_marks(marks: &mut [u8])
-    ensures { (p : ℕ) → slice_index marks.new p ≡ 0 }
-{
-    for m in marks.iter_mut() {
-        *m = 0;
-    }
-}
 
 // Whether no note waits.
 fn is_empty<L: Line>(line: &L) -> bool
@@ -55,22 +34,22 @@ pub fn open<K: Ranking, L: Line>(
     marks: &mut [u8],
     line: &L,
 ) -> Result<Round, Fault>
-    ensures { elim result [ Ok x ↦ Opened (held sheet.now) (world L.Line.waiting L.Line.capacity L.Line.chosen x records.new marks.new line.now) | Err f ↦ OpenRefused (held sheet.now) records.old marks.old (L.Line.waiting line.now) (L.Line.capacity line.now) f.0 f.1 × (records.new ≡ records.old) × (marks.new ≡ marks.old) ] }
+    ensures { elim result [ Ok x ↦ Opened (held sheet.now) (world L.Line.waiting L.Line.capacity L.Line.chosen x records.new marks.new line.now) | Err f ↦ OpenRefused (held sheet.now) records.old marks.old (L.Line.waiting line.now) (L.Line.capacity line.now) (number f.0) f.1 × (records.new ≡ records.old) × (marks.new ≡ marks.old) ] }
 {
     let tables = sheet.tables();
     let parcels = tables.stores.len();
     let entries = tables.others.len();
     if !is_empty(line) {
-        return Err((LINE_UNFIT, 0));
+        return Err((Refusal::LineUnfit, 0));
     }
     if (line.size() as usize) < entries {
-        return Err((LINE_UNFIT, 0));
+        return Err((Refusal::LineUnfit, 0));
     }
     if records.len() != parcels || marks.len() != entries {
-        return Err((WRONG_LENGTH, 0));
+        return Err((Refusal::WrongLength, 0));
     }
     clear_records(records);
-    clear_marks(marks);
+    marks.fill(0);
     Ok(Round {
         parcels: parcels as u32,
         entries: entries as u32,
@@ -81,16 +60,34 @@ pub fn open<K: Ranking, L: Line>(
 }
 
 // The lowest parcel that is idle or waits.
-fn first_undecided<K: Copy>(sheet: &Sheet<K>, records: &[Record]) -> Option<usize>
-    requires { Right (held sheet.now) records.now }
-    ensures { FirstUndecided (held sheet.now) records.now result }
+fn first_undecided<K: Copy>(ledger: Ledger<'_, K>) -> Option<usize>
+    requires { Right (held ledger.sheet.now) ledger.records.now }
+    ensures { FirstUndecided (held ledger.entry.sheet.now) ledger.entry.records.now result }
 {
-    for u in 0..records.len() {
-        if records[u].state <= WAITS {
-            return Some(u);
-        }
+    let mut records = ledger.records.iter();
+    records.position(|record| record.is(State::Idle) || record.is(State::Waits))
+}
+
+// What the records of a round come to, if it can be closed.
+fn try_close<K: Copy, L: Line>(
+    round: &Round,
+    ledger: Ledger<'_, K>,
+    marks: &[u8],
+    line: &L,
+) -> Result<Tally, Fault>
+    ensures { elim result [ Ok x ↦ Closable (held ledger.entry.sheet.now) (world L.Line.waiting L.Line.capacity L.Line.chosen round.now ledger.entry.records.now marks.now line.now) × Counts (held ledger.entry.sheet.now) ledger.entry.records.now x | Err f ↦ CloseRefused (held ledger.entry.sheet.now) (world L.Line.waiting L.Line.capacity L.Line.chosen round.now ledger.entry.records.now marks.now line.now) (number f.0) f.1 ] }
+{
+    if !fits_sheet(round, ledger.sheet, ledger.records, marks) {
+        return Err((Refusal::WrongLength, 0));
     }
-    None
+    ledger.try_records()?;
+    if let Some(u) = first_undecided(ledger) {
+        return Err((Refusal::Unsettled, u as u32));
+    }
+    if !is_empty(line) {
+        return Err((Refusal::Unsettled, round.parcels));
+    }
+    Ok(ledger.count())
 }
 
 /// Closes a settled round: answers the pairs made, the lone parcels, the notes sent and the accepted turns.
@@ -108,34 +105,17 @@ pub fn close<K: Ranking, L: Line>(
     marks: &[u8],
     line: &L,
 ) -> Result<Totals, (Round, Fault)>
-    ensures answer { elim result [ Ok x ↦ Closed (held sheet.now) (world L.Line.waiting L.Line.capacity L.Line.chosen round records.now marks.now line.now) x | Err f ↦ (f.0 ≡ round) × CloseRefused (held sheet.now) (world L.Line.waiting L.Line.capacity L.Line.chosen round records.now marks.now line.now) f.1.0 f.1.1 × (Closable (held sheet.now) (world L.Line.waiting L.Line.capacity L.Line.chosen round records.now marks.now line.now) → ⊥) ] }
+    ensures answer { elim result [ Ok x ↦ Closed (held sheet.now) (world L.Line.waiting L.Line.capacity L.Line.chosen round records.now marks.now line.now) x | Err f ↦ (f.0 ≡ round) × CloseRefused (held sheet.now) (world L.Line.waiting L.Line.capacity L.Line.chosen round records.now marks.now line.now) (number f.1.0) f.1.1 × (Closable (held sheet.now) (world L.Line.waiting L.Line.capacity L.Line.chosen round records.now marks.now line.now) → ⊥) ] }
     ensures law { (calls : List Call) → Alike K.Ranking.atleast (held sheet.now) → After K.Ranking.atleast (held sheet.now) calls (world L.Line.waiting L.Line.capacity L.Line.chosen round records.now marks.now line.now) → Law K.Ranking.atleast (held sheet.now) (world L.Line.waiting L.Line.capacity L.Line.chosen round records.now marks.now line.now) }
 {
-    if !fits_sheet(&round, sheet, records, marks) {
-        return Err((round, (WRONG_LENGTH, 0)));
+    let ledger = Ledger { sheet, records };
+    match try_close(&round, ledger, marks, line) {
+        Ok(tally) => Ok(Totals {
+            pairs: tally.pairs,
+            lone: tally.lone,
+            sent: round.sent,
+            turns: round.turns,
+        }),
+        Err(fault) => Err((round, fault)),
     }
-    if let Err(fault) = try_records(sheet, records) {
-        return Err((round, fault));
-    }
-    if let Some(u) = first_undecided(sheet, records) {
-        return Err((round, (UNSETTLED, u as u32)));
-    }
-    if !is_empty(line) {
-        let parcels = round.parcels;
-        return Err((round, (UNSETTLED, parcels)));
-    }
-    let tally = count(sheet, records);
-    let Round {
-        parcels: _,
-        entries: _,
-        stores: _,
-        turns,
-        sent,
-    } = round;
-    Ok(Totals {
-        pairs: tally.pairs,
-        lone: tally.lone,
-        sent,
-        turns,
-    })
 }

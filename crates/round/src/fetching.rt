@@ -2,6 +2,7 @@ ghost use Rattle.std.specs.Prelude.{◌≡◌, ℕ, ◌+◌, ◌<◌, true, fals
 ghost use Rattle.std.specs.List.Sorted.{IsPermutation};
 ghost use Rattle.sheet.specs.Graph.{InRow, parcels, entries, row_start};
 ghost use Rattle.sheet.specs.Held.{held};
+ghost use Rattle.line.specs.Kinds.{code};
 ghost use Rattle.protocol.specs.Steps.{entry_of};
 ghost use Rattle.protocol.specs.Turns.{Fetch, stray};
 ghost use Rattle.round.specs.Parts.{ComesTo, Received};
@@ -12,22 +13,24 @@ use crate::choose::{
 };
 use crate::starting::{count_turn, fits_sheet};
 use crate::state::Round;
-use faults::{ASTRAY, Fault, NO_ROOM, NO_STORE, NOTHING_WAITS, STRAY_NOTE, WRONG_LENGTH};
-use line::{BID, DROP, Line, Note};
+use faults::{Fault, Refusal};
+use line::{Kind, Line, Note};
 use ranking::Ranking;
-use records::{PAIRED, Record, WAITS, record_strays};
+use records::{Ledger, Record, State};
 use sheet::{Sheet, find_entry};
 
-// The addressee's entry for the sender, if the note can come to this store.
-fn entry_for<K: Ranking>(sheet: &Sheet<K>, store: u32, note: Note) -> Option<usize>
+// What a note says, and the addressee's entry for its sender, if the note can come to this store.
+fn entry_for<K: Ranking>(sheet: &Sheet<K>, store: u32, note: Note) -> Option<(Kind, usize)>
     ensures { ComesTo K.Ranking.atleast (held sheet.now) store note result }
 {
     let stores = sheet.tables().stores;
     let a = note.addressee as usize;
-    if a >= stores.len() || stores[a] != store || (note.kind != BID && note.kind != DROP) {
+    if a >= stores.len() || stores[a] != store {
         return None;
     }
-    find_entry(sheet, a, note.sender as usize)
+    let kind = Kind::try_from(note.kind).ok()?;
+    let at = find_entry(sheet, a, note.sender as usize)?;
+    Some((kind, at))
 }
 
 // Whether parcel `a`, which has this record, waits with the entry at place `at` as its choice.
@@ -35,8 +38,7 @@ fn awaits<K: Copy>(sheet: &Sheet<K>, a: usize, at: usize, was: Record) -> bool
     requires { a < parcels (held sheet.now) }
     ensures { result ≡ (was.state == 1 && row_start (held sheet.now) a + was.choice == at) }
 {
-    let (start, _) = row(sheet, a);
-    was.state == WAITS && start + was.choice as usize == at
+    was.is(State::Waits) && row(sheet, a).start + was.choice as usize == at
 }
 
 // Takes the note that the line hands its store.
@@ -78,7 +80,7 @@ fn receive_bid<K: Ranking, L: Line>(
     take_sure(line, note);
     marks[at] |= BIDDEN;
     let_go(sheet, marks, line, a, at);
-    Some((with_choice(sheet, PAIRED, a, at), count))
+    Some((with_choice(sheet, State::Paired, a, at), count))
 }
 
 // The addressee receives a drop: its entry for the sender is struck, and if it waits with that choice, it chooses.
@@ -115,25 +117,26 @@ fn receive_drop<K: Ranking, L: Line>(
     Some((carry_out(sheet, marks, line, a, plan), count))
 }
 
-// The addressee receives a note.
+// The addressee receives a note of this kind.
 fn receive<K: Ranking, L: Line>(
     sheet: &Sheet<K>,
     marks: &mut [u8],
     line: &mut L,
+    kind: Kind,
     note: Note,
     at: usize,
     was: Record,
 ) -> Option<(Record, u32)>
+    requires kind { code kind ≡ note.kind }
     requires comes { stray K.Ranking.atleast (held sheet.now) note.store note ≡ false }
     requires entry { at ≡ entry_of (held sheet.now) note }
     requires long { length marks.old ≡ entries (held sheet.now) }
     requires handed { L.Line.chosen line.old note.store ≡ Some note }
     ensures { Received K.Ranking.atleast (held sheet.now) L.Line.waiting L.Line.capacity note was result marks.old marks.new line.old line.new }
 {
-    if note.kind == BID {
-        receive_bid(sheet, marks, line, note, at, was)
-    } else {
-        receive_drop(sheet, marks, line, note, at, was)
+    match kind {
+        Kind::Bid => receive_bid(sheet, marks, line, note, at, was),
+        Kind::Drop => receive_drop(sheet, marks, line, note, at, was),
     }
 }
 
@@ -154,25 +157,30 @@ pub fn fetch<K: Ranking, L: Line>(
     ensures { Fetch K.Ranking.atleast (held sheet.now) store result (world L.Line.waiting L.Line.capacity L.Line.chosen round.old records.old marks.old line.old) (world L.Line.waiting L.Line.capacity L.Line.chosen round.new records.new marks.new line.new) }
 {
     if store >= sheet.tables().store_count {
-        return Err((NO_STORE, store));
+        return Err((Refusal::NoStore, store));
     }
     if !fits_sheet(round, sheet, records, marks) {
-        return Err((WRONG_LENGTH, 0));
+        return Err((Refusal::WrongLength, 0));
     }
     let Some(note) = line.next(store) else {
-        return Err((NOTHING_WAITS, store));
+        return Err((Refusal::NothingWaits, store));
     };
-    let Some(at) = entry_for(sheet, store, note) else {
-        return Err((STRAY_NOTE, store));
+    let Some((kind, at)) = entry_for(sheet, store, note) else {
+        return Err((Refusal::StrayNote, store));
     };
     let a = note.addressee as usize;
-    let strays = record_strays(sheet, records, a).unwrap_or(true);
+    let strays = Ledger {
+        sheet: &*sheet,
+        records: &*records,
+    }
+    .strays(a)
+    .unwrap_or(true);
     if strays {
-        return Err((ASTRAY, note.addressee));
+        return Err((Refusal::Astray, note.addressee));
     }
     let was = records[a];
-    let Some((now_is, sent)) = receive(sheet, marks, line, note, at, was) else {
-        return Err((NO_ROOM, note.addressee));
+    let Some((now_is, sent)) = receive(sheet, marks, line, kind, note, at, was) else {
+        return Err((Refusal::NoRoom, note.addressee));
     };
     records[a] = now_is;
     count_turn(round, sent);

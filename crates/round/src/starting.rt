@@ -1,15 +1,16 @@
-ghost use Rattle.std.specs.Prelude.{◌≡◌, ℕ};
+ghost use Rattle.std.specs.Prelude.{◌≡◌, ℕ, Ok, Err};
+ghost use Rattle.faults.specs.Numbers.{number};
 ghost use Rattle.sheet.specs.Held.{held};
 ghost use Rattle.protocol.specs.Turns.{Start};
-ghost use Rattle.round.specs.Parts.{tables_fit, Counted};
+ghost use Rattle.round.specs.Parts.{tables_fit, Counted, Unstartable};
 ghost use Rattle.round.specs.Seen.{world};
 
 use crate::choose::{carry_out, plan_choice, sending};
 use crate::state::Round;
-use faults::{ASTRAY, Fault, NO_PARCEL, NO_ROOM, STARTED, WRONG_LENGTH};
+use faults::{Fault, Refusal};
 use line::Line;
 use ranking::Ranking;
-use records::{IDLE, LONE, Record};
+use records::{Record, State};
 use sheet::Sheet;
 
 /// Whether the tables have the sheet's lengths, and the round its sizes.
@@ -37,6 +38,17 @@ pub(crate) fn count_turn(round: &mut Round, sent: u32)
     round.sent = round.sent.saturating_add(sent);
 }
 
+// Refuses a parcel, which has this record, that has started (13) or whose record is out of range (16).
+fn try_idle(record: Record, parcel: u32) -> Result<(), Fault>
+    ensures { elim result [ Ok _ ↦ record.state ≡ 0 | Err f ↦ Unstartable record.state (number f.0) × (f.1 ≡ parcel) ] }
+{
+    match State::try_from(record.state) {
+        Ok(State::Idle) => Ok(()),
+        Ok(State::Waits | State::Paired | State::Lone) => Err((Refusal::Started, parcel)),
+        Err(_) => Err((Refusal::Astray, parcel)),
+    }
+}
+
 /// Starts a parcel: it chooses.
 ///
 /// Refuses, and then alters nothing: a parcel that the sheet does not have (9, at its number), tables or a sheet of
@@ -54,22 +66,16 @@ pub fn start<K: Ranking, L: Line>(
 {
     let u = parcel as usize;
     if u >= sheet.tables().stores.len() {
-        return Err((NO_PARCEL, parcel));
+        return Err((Refusal::NoParcel, parcel));
     }
     if !fits_sheet(round, sheet, records, marks) {
-        return Err((WRONG_LENGTH, 0));
+        return Err((Refusal::WrongLength, 0));
     }
-    let state = records[u].state;
-    if state > LONE {
-        return Err((ASTRAY, parcel));
-    }
-    if state != IDLE {
-        return Err((STARTED, parcel));
-    }
+    try_idle(records[u], parcel)?;
     let plan = plan_choice(sheet, marks, u);
     let count = sending(&plan);
     if count > line.free() {
-        return Err((NO_ROOM, parcel));
+        return Err((Refusal::NoRoom, parcel));
     }
     records[u] = carry_out(sheet, marks, line, u, plan);
     count_turn(round, count);

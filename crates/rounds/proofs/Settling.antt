@@ -1,12 +1,16 @@
 -- A round that was opened and run until it ended can be closed, by the law. Assumes nothing.
-use Rattle.std.proofs.Common.{◌≡◌, ℕ, suc, ◌+◌, ◌≤◌, min, Bool, true, ◌&&◌, leb, ◌⊎◌, List, [], ◌∷◌, is_some, sym, refl, ap, ◌∙◌, inl, inr, ⊎_elim, arith}
+use Rattle.std.proofs.Common.{◌≡◌, ℕ, suc, ◌+◌, ◌≤◌, min, Bool, true, ◌&&◌, leb, ◌⊎◌, List, [], ◌∷◌, is_some, Ok, Err, Result, MatchResult, sym, refl, ap, subst, ◌∙◌, inl, inr, ⊎_elim, arith}
 use Rattle.std.specs.List.{range_with_len}
 use Rattle.std.proofs.lemmas.List.FromFn.{length-range_with_len}
 use Rattle.std.proofs.lemmas.List.Sums.{count_by-le-length}
 use Rattle.std.proofs.lemmas.Bool.{both_ways, true≢false}
+use Rattle.faults.specs.declared.Refusal.{Refusal}
+use Rattle.faults.specs.Numbers.{number}
 use Rattle.line.specs.declared.Note.{Note}
-use Rattle.records.specs.declared.Record.{Record}
-use Rattle.rounds.specs.Settling.{Ready}
+use Rattle.records.specs.declared.record.Record.{Record}
+use Rattle.records.specs.declared.ledger.Totals.{Totals}
+use Rattle.round.specs.declared.state.Round.{Round}
+use Rattle.rounds.specs.Settling.{Ready, Settling, SettlesOrUnopened, DoesNotRefuse}
 use Rattle.records.specs.Records.{state}
 use Rattle.ranking.specs.Law.{Lawful}
 use Rattle.sheet.specs.Graph.{Graph, parcels}
@@ -21,7 +25,7 @@ use Rattle.protocol.specs.declared.Ending.{Ending}
 use Rattle.protocol.specs.declared.Ending.TheVariants.{Still, Spent, Refused}
 use Rattle.protocol.proofs.Holds.{facts_fit}
 use Rattle.protocol.proofs.Refusals.{start_not_accepted, fetch_not_accepted}
-use Rattle.round.specs.Closing.{CloseRefused, strays, undecided, waiting}
+use Rattle.round.specs.Closing.{CloseRefused, Closable, Closed, strays, undecided, waiting}
 use Rattle.round.specs.Closing as closing
 use Rattle.rounds.proofs.Going.{started_fits, fetched_fits}
 
@@ -111,3 +115,27 @@ module _ {K : Type 0} (atleast : K → K → Bool) (laws : Lawful atleast) (t : 
 pub ready_opens : {K : Type 0} (t : Graph K) {rs : List Record} {m : List ℕ} {before : List Note} {capacity k p : ℕ} → Ready t rs m before capacity → closing.OpenRefused t rs m before capacity k p → ⊥
 ready_opens t ready (closing.line_unfit un) = un ready.empty ready.room
 ready_opens t ready (closing.wrong_length _ _ un) = un ready.records_long ready.marks_long
+
+-- what close answers of a round in this world
+abbrev Answered : {K : Type 0} → Graph K → World → Round → Result Totals (Round × (Refusal × ℕ)) → Type 0
+Answered t w round (Ok x) = Closed t w x
+Answered t w round (Err f) = (f.0 ≡ round) × CloseRefused t w (number f.1.0) f.1.1 × (Closable t w → ⊥)
+
+-- an answer without the round that a refusal hands back
+abbrev Without : Result Totals (Round × (Refusal × ℕ)) → Result Totals (Refusal × ℕ) → Type 0
+Without r s = MatchResult r (λ x. s ≡ Ok x) (λ e. s ≡ Err e.1)
+
+-- what settling answers, where a round was opened and run and close answered this
+module _ {K : Type 0} (atleast : K → K → Bool) (laws : Lawful atleast) (t : Graph K) (sound : Sound t) (see : Round → World) (unopened : ℕ → ℕ → Type 0) (round : Round) {first : World} {n : ℕ} {e : Ending} (o : Opened t first) (ran : Ran atleast t 4294967295 first n e (see round)) where
+  pub settled_did : (r : Result Totals (Round × (Refusal × ℕ))) (s : Result Totals (Refusal × ℕ)) → Without r s → Answered t (see round) round r → Settling atleast t see unopened s
+  settled_did (Ok x) s is closed = subst (Settling atleast t see unopened) (sym is) (record { round = round; came = record { first = first; opened = o; made = n; ending = e; ran = ran } }, closed)
+  settled_did (Err f) s is refused = subst (Settling atleast t see unopened) (sym is) (inr (record { round = round; came = record { first = first; opened = o; made = n; ending = e; ran = ran } }, refused.1))
+
+  module _ (law : Law atleast t (see round)) where
+    pub settled_settles : (r : Result Totals (Round × (Refusal × ℕ))) (s : Result Totals (Refusal × ℕ)) → Without r s → Answered t (see round) round r → SettlesOrUnopened atleast t see unopened s
+    settled_settles (Ok x) s is closed = subst (SettlesOrUnopened atleast t see unopened) (sym is) (round, record { closed = closed; law = law; whole = law.entire closed.closable.settled })
+    settled_settles (Err f) s is refused = absurd (closes atleast laws t sound o ran law refused.1)
+
+    pub settled_ready : (r : Result Totals (Round × (Refusal × ℕ))) (s : Result Totals (Refusal × ℕ)) → Without r s → Answered t (see round) round r → DoesNotRefuse s
+    settled_ready (Ok x) s is closed = subst DoesNotRefuse (sym is) tt
+    settled_ready (Err f) s is refused = absurd (closes atleast laws t sound o ran law refused.1)

@@ -1,8 +1,10 @@
 -- Settling a round: open, run until still, close. Assumes nothing.
 use Rattle.std.specs.Prelude.{◌≡◌, ℕ, ◌≤◌, Bool, ◌⊎◌, List, [], length, Ok, Err, Result}
+use Rattle.faults.specs.declared.Refusal.{Refusal}
+use Rattle.faults.specs.Numbers.{number}
 use Rattle.line.specs.declared.Note.{Note}
-use Rattle.records.specs.declared.Record.{Record}
-use Rattle.records.specs.declared.Totals.{Totals}
+use Rattle.records.specs.declared.record.Record.{Record}
+use Rattle.records.specs.declared.ledger.Totals.{Totals}
 use Rattle.records.specs.Records.{Entire}
 use Rattle.sheet.specs.Graph.{Graph, parcels, entries}
 use Rattle.pairing.specs.Above.{greedy_pairing}
@@ -41,16 +43,16 @@ pub record Ended {K : Type 0} (atleast : K → K → Bool) (t : Graph K) (see : 
   pub came : CameTo atleast t (see round)
 
 -- what settling answers: what close does of a round that was opened and run, or what open does
-abbrev pub Settling : {K : Type 0} → (K → K → Bool) → Graph K → (Round → World) → (ℕ → ℕ → Type 0) → Result Totals (ℕ × ℕ) → Type 0
+abbrev pub Settling : {K : Type 0} → (K → K → Bool) → Graph K → (Round → World) → (ℕ → ℕ → Type 0) → Result Totals (Refusal × ℕ) → Type 0
 Settling atleast t see unopened (Ok x) = (e : Ended atleast t see) × Closed t (see e.round) x
-Settling atleast t see unopened (Err f) = unopened f.0 f.1 ⊎ ((e : Ended atleast t see) × CloseRefused t (see e.round) f.0 f.1)
+Settling atleast t see unopened (Err f) = unopened (number f.0) f.1 ⊎ ((e : Ended atleast t see) × CloseRefused t (see e.round) (number f.0) f.1)
 
 -- and on a sheet whose two sides rank alike: only open refuses, and the round ends settled
-abbrev pub SettlesOrUnopened : {K : Type 0} → (K → K → Bool) → Graph K → (Round → World) → (ℕ → ℕ → Type 0) → Result Totals (ℕ × ℕ) → Type 0
+abbrev pub SettlesOrUnopened : {K : Type 0} → (K → K → Bool) → Graph K → (Round → World) → (ℕ → ℕ → Type 0) → Result Totals (Refusal × ℕ) → Type 0
 SettlesOrUnopened atleast t see unopened (Ok x) = (r : Round) × Settles atleast t (see r) x
-SettlesOrUnopened atleast t see unopened (Err f) = unopened f.0 f.1
+SettlesOrUnopened atleast t see unopened (Err f) = unopened (number f.0) f.1
 
 -- with tables of the right lengths and an empty line with room for the entries, it does not refuse
-abbrev pub DoesNotRefuse : Result Totals (ℕ × ℕ) → Type 0
+abbrev pub DoesNotRefuse : Result Totals (Refusal × ℕ) → Type 0
 DoesNotRefuse (Ok _) = Unit {0}
 DoesNotRefuse (Err _) = ⊥

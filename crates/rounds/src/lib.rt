@@ -4,23 +4,23 @@
 ghost use Rattle.std.specs.Prelude.{◌≡◌, ℕ, ◌<◌, ◌≤◌, [], length};
 ghost use Rattle.sheet.specs.Graph.{parcels};
 ghost use Rattle.sheet.specs.Held.{held};
-ghost use Rattle.protocol.specs.Runs.{Ran, NoneIdle};
+ghost use Rattle.protocol.specs.Runs.{Ran};
 ghost use Rattle.round.specs.Seen.{world};
 ghost use Rattle.sheet.specs.Check.{Alike};
 ghost use Rattle.round.specs.Closing.{OpenRefused};
 ghost use Rattle.rounds.specs.Settling.{Ready, Settling, SettlesOrUnopened, DoesNotRefuse};
 ghost use Rattle.rounds.specs.Next.{Idle, Store, NextTurn, Turned};
 
-use faults::{Fault, WRONG_LENGTH};
+use faults::{Fault, Refusal};
 use line::Line;
 use protocol::Ending;
 use ranking::Ranking;
-use records::{IDLE, Record, Totals};
+use records::{Ledger, Record, State, Totals};
 use round::{Round, close, fetch, fits_sheet, open, start};
 use sheet::Sheet;
 
 /// A turn of a run.
-#[derive(Clone, Copy)]
+#[derive(Clone, Copy, Debug, PartialEq, Eq)]
 pub enum Turn {
     /// A start of this parcel.
     StartOf(u32),
@@ -29,61 +29,28 @@ pub enum Turn {
 }
 
 // The lowest idle parcel.
-fn lowest_idle<K: Copy, L: Line>(
-    round: &Round,
-    sheet: &Sheet<K>,
-    records: &[Record],
-    marks: &[u8],
-    line: &L,
-) -> Option<u32>
-    requires { length records.now ≡ parcels (held sheet.now) }
-    ensures { Idle (held sheet.now) (world L.Line.waiting L.Line.capacity L.Line.chosen round.now records.now marks.now line.now) result }
+fn lowest_idle<K: Copy>(ledger: Ledger<'_, K>) -> Option<u32>
+    requires { length ledger.records.now ≡ parcels (held ledger.sheet.now) }
+    ensures { Idle (held ledger.entry.sheet.now) ledger.entry.records.now result }
 {
-    for u in 0..records.len() {
-        if records[u].state == IDLE {
-            return Some(u as u32);
-        }
-    }
-    None
+    (0..ledger.parcel_count()).find(|u| ledger.records[*u as usize].is(State::Idle))
 }
 
-// With no parcel idle, the lowest store of the sheet that a note waits for.
-fn lowest_store<K: Copy, L: Line>(
-    round: &Round,
-    sheet: &Sheet<K>,
-    records: &[Record],
-    marks: &[u8],
-    line: &L,
-) -> Option<u32>
-    requires { NoneIdle (held sheet.now) (world L.Line.waiting L.Line.capacity L.Line.chosen round.now records.now marks.now line.now) (parcels (held sheet.now)) }
-    ensures { Store (held sheet.now) (world L.Line.waiting L.Line.capacity L.Line.chosen round.now records.now marks.now line.now) result }
+// The lowest store of the sheet that a note waits for.
+fn lowest_store<K: Copy, L: Line>(sheet: &Sheet<K>, line: &L) -> Option<u32>
+    ensures { Store (held sheet.now) (L.Line.chosen line.now) result }
 {
-    let stores = sheet.tables().store_count;
-    for s in 0..stores {
-        if line.next(s).is_some() {
-            return Some(s);
-        }
-    }
-    None
+    (0..sheet.tables().store_count).find(|s| line.next(*s).is_some())
 }
 
 // The turn that comes next: a start of the lowest idle parcel, else a fetch for the lowest store with a note.
-fn next_turn<K: Copy, L: Line>(
-    round: &Round,
-    sheet: &Sheet<K>,
-    records: &[Record],
-    marks: &[u8],
-    line: &L,
-) -> Option<Turn>
-    requires { length records.now ≡ parcels (held sheet.now) }
-    ensures { NextTurn (held sheet.now) (world L.Line.waiting L.Line.capacity L.Line.chosen round.now records.now marks.now line.now) result }
+fn next_turn<K: Copy, L: Line>(ledger: Ledger<'_, K>, line: &L) -> Option<Turn>
+    requires { length ledger.records.now ≡ parcels (held ledger.sheet.now) }
+    ensures { NextTurn (held ledger.entry.sheet.now) ledger.entry.records.now (L.Line.chosen line.now) result }
 {
-    if let Some(u) = lowest_idle(round, sheet, records, marks, line) {
-        return Some(Turn::StartOf(u));
-    }
-    match lowest_store(round, sheet, records, marks, line) {
-        Some(s) => Some(Turn::FetchFor(s)),
-        None => None,
+    match lowest_idle(ledger) {
+        Some(u) => Some(Turn::StartOf(u)),
+        None => lowest_store(ledger.sheet, line).map(Turn::FetchFor),
     }
 }
 
@@ -122,17 +89,25 @@ pub fn run<K: Ranking, L: Line>(
     ensures bound { result.0 ≤ budget }
 {
     if !fits_sheet(round, sheet, records, marks) {
-        return (0, Ending::Refused(WRONG_LENGTH, 0));
+        return (0, Ending::Refused(u32::from(Refusal::WrongLength), 0));
     }
     for made in 0..budget {
-        let Some(turn) = next_turn(round, sheet, records, marks, line) else {
+        let ledger = Ledger {
+            sheet: &*sheet,
+            records: &*records,
+        };
+        let Some(turn) = next_turn(ledger, line) else {
             return (made, Ending::Still);
         };
-        if let Err((number, place)) = make_turn(round, sheet, records, marks, line, turn) {
-            return (made, Ending::Refused(number, place));
+        if let Err((refusal, place)) = make_turn(round, sheet, records, marks, line, turn) {
+            return (made, Ending::Refused(u32::from(refusal), place));
         }
     }
-    match next_turn(round, sheet, records, marks, line) {
+    let ledger = Ledger {
+        sheet: &*sheet,
+        records: &*records,
+    };
+    match next_turn(ledger, line) {
         Some(_) => (budget, Ending::Spent),
         None => (budget, Ending::Still),
     }
@@ -152,13 +127,7 @@ pub fn settle<K: Ranking, L: Line>(
     ensures settles { Alike K.Ranking.atleast (held sheet.now) → SettlesOrUnopened K.Ranking.atleast (held sheet.now) (λ x. world L.Line.waiting L.Line.capacity L.Line.chosen x records.new marks.new line.new) (λ k p. OpenRefused (held sheet.now) records.old marks.old (L.Line.waiting line.old) (L.Line.capacity line.old) k p × (records.new ≡ records.old) × (marks.new ≡ marks.old) × (line.new ≡ line.old)) result }
     ensures ready { Alike K.Ranking.atleast (held sheet.now) → Ready (held sheet.now) records.old marks.old (L.Line.waiting line.old) (L.Line.capacity line.old) → DoesNotRefuse result }
 {
-    let mut round = match open(sheet, records, marks, line) {
-        Ok(round) => round,
-        Err(fault) => return Err(fault),
-    };
+    let mut round = open(sheet, records, marks, line)?;
     let _ = run(&mut round, sheet, records, marks, line, u32::MAX);
-    match close(round, sheet, records, marks, line) {
-        Ok(totals) => Ok(totals),
-        Err((_, fault)) => Err(fault),
-    }
+    close(round, sheet, records, marks, line).map_err(|(_, fault)| fault)
 }

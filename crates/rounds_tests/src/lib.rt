@@ -4,10 +4,8 @@
 #[cfg(test)]
 mod tests {
     use faults::Fault;
-    use line::{BID, Line, Note};
-    use lines::BLANK;
-    use lines::pigeonholes::Pigeonholes;
-    use lines::queue::Queue;
+    use line::{Kind, Line, Note};
+    use lines::{BLANK, Pigeonholes, Queue};
     use outright::pair_outright;
     use protocol::Ending;
     use ranking::Cents;
@@ -45,8 +43,10 @@ mod tests {
         check_sheet(sheet, tables)
     }
 
-    fn same(a: &[Record; 4], b: &[Record; 4]) -> bool {
-        a[0] == b[0] && a[1] == b[1] && a[2] == b[2] && a[3] == b[3]
+    // What is refused, as the numbers that a user is told.
+    fn told(fault: Fault) -> (u32, u32) {
+        let (refusal, place) = fault;
+        (u32::from(refusal), place)
     }
 
     // Parcels 1 and 2 start, and store 1 fetches: 2 is paired, 1 waits, and two of three notes wait.
@@ -66,15 +66,15 @@ mod tests {
         assert_eq!(rt; records[2].state, 2);
         assert_eq!(rt; line.free(), 4);
         let again = start(&mut round, &sheet, &mut records, &mut marks, &mut line, 1);
-        assert_eq!(rt; again, Err((13, 1)));
+        assert_eq!(rt; again.map_err(told), Err((13, 1)));
         let missing = start(&mut round, &sheet, &mut records, &mut marks, &mut line, 4);
-        assert_eq!(rt; missing, Err((9, 4)));
+        assert_eq!(rt; missing.map_err(told), Err((9, 4)));
         let far = fetch(&mut round, &sheet, &mut records, &mut marks, &mut line, 2);
-        assert_eq!(rt; far, Err((10, 2)));
+        assert_eq!(rt; far.map_err(told), Err((10, 2)));
         match close(round, &sheet, &records, &marks, &line) {
             Ok(_) => Err(Fail::new("closed")),
             Err((_, fault)) => {
-                assert_eq!(rt; fault, (18, 0));
+                assert_eq!(rt; told(fault), (18, 0));
                 Ok(())
             },
         }
@@ -100,12 +100,12 @@ mod tests {
             sender: 0,
             addressee: 1,
             store: 0,
-            kind: BID,
+            kind: u8::from(Kind::Bid),
         })?;
         match open(&sheet, &mut records, &mut marks, &full) {
             Ok(_) => Err(Fail::new("opened")),
             Err(fault) => {
-                assert_eq!(rt; fault, (11, 0));
+                assert_eq!(rt; told(fault), (11, 0));
                 Ok(())
             },
         }
@@ -134,8 +134,8 @@ mod tests {
         let mut outright = [ODD; 4];
         let mut worklist = [0; 4];
         pair_outright(&sheet, &mut outright, &mut worklist)?;
-        assert!(rt; same(&by_queue, &by_holes));
-        assert!(rt; same(&by_queue, &outright));
+        assert!(rt; by_queue == by_holes);
+        assert!(rt; by_queue == outright);
         Ok(())
     }
 

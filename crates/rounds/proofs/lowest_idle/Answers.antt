@@ -1,12 +1,14 @@
-use Rattle.std.proofs.Common.{◌≡◌, arith, below_more}
+use Rattle.std.proofs.Common.{◌≡◌, rules}
+use Rattle.std.proofs.lemmas.Iterator.{first_from_Range}
 use Rattle.records.specs.Records.{state}
+use Rattle.sheet.specs.Held.{held}
+use Rattle.rounds.proofs.Finding.{idle_found}
 use Rattle.rounds.proofs.lowest_idle.Goals as goal
 
-pub loop-u-preserved : goal.loop-u-preserved
-loop-u-preserved g c = below_more (λ v. state c.args.records.now v ≡ 0 → ⊥) c.loop-u.u c.loop-u.invariant c.if-records-u-eq-IDLE.false
-
-pub returns-then-records-u-eq-IDLE : goal.returns-then-records-u-eq-IDLE
-returns-then-records-u-eq-IDLE g c = record { parcel = omega (arith, c.requires, c.loop-u-test.true); idle = c.if-records-u-eq-IDLE.true; lowest = c.loop-u.invariant }
-
 pub returns : goal.returns
-returns g c = λ v less. c.loop-u.invariant v (omega (arith, c.requires, c.loop-u-test.false, less))
+returns g c =
+    let rs = c.args.ledger.records.now in
+    idle_found (held c.args.ledger.sheet.now) rs c.find.result c.parcel_count.result c.parcel_count.ensures
+    (first_from_Range _ _ _ _ (λ u. state rs u ≡ 0) (λ u. state rs u ≡ 0 → ⊥) c.find.ensures.ran
+    (λ x q k. search rules)
+    (λ x q k. (search rules, search rules)))

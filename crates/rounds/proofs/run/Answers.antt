@@ -7,7 +7,7 @@ use Rattle.rounds.proofs.Going.{here, turned_ok, ends_still, ends_refused, ends_
 use Rattle.rounds.proofs.run.Goals as goal
 
 pub returns-then-not-fits_sheet : goal.returns-then-not-fits_sheet
-returns-then-not-fits_sheet g c = record { turns = other_sizes (sym c.if-not-fits_sheet.ensures); bound = omega arith }
+returns-then-not-fits_sheet g c = record { turns = rw c.from.ensures (other_sizes (sym c.if-not-fits_sheet.ensures)); bound = omega arith }
 
 pub loop-made-init : goal.loop-made-init
 loop-made-init g c = (here, sym c.if-not-fits_sheet.ensures)
@@ -50,7 +50,7 @@ returns-in-Err g c =
     let w = world l.waiting l.capacity l.chosen c.loop-made.round c.loop-made.records c.loop-made.marks c.loop-made.line in
     let went = c.loop-made.invariant.0 in
     let fit = c.loop-made.invariant.1 in
-    record { turns = ends_refused atleast t c.loop-made.made c.args.budget went fit c.loop-made-test.true c.in-Some.turn (c.in-Err.number, c.in-Err.place) c.in-Some.ensures c.in-Err.ensures; bound = omega (arith, c.loop-made-test.true) }
+    record { turns = rw c.from-in-Err.ensures (ends_refused atleast t c.loop-made.made c.args.budget went fit c.loop-made-test.true c.in-Some.turn (c.in-Err.refusal, c.in-Err.place) c.in-Some.ensures c.in-Err.ensures); bound = omega (arith, c.loop-made-test.true) }
 
 pub returns-in-Some-next_turn : goal.returns-in-Some-next_turn
 returns-in-Some-next_turn g c =

@@ -1,40 +1,33 @@
-use Rattle.std.proofs.Common.{refl, inl, inr}
+use Rattle.std.proofs.Common.{◌≡◌, ℕ, ap, ◌∙◌, Ok, Err, MatchResult, rules}
+use Rattle.std.proofs.lemmas.Result.{MatchResult-weaker, err_from_is_err_and}
 use Rattle.sheet.specs.Held.{held}
 use Rattle.sheet.proofs.Held.{held_sound}
-use Rattle.rounds.proofs.Settling.{closes, one_run, ready_opens}
+use Rattle.protocol.specs.World.{World}
+use Rattle.round.specs.declared.state.Round.{Round}
+use Rattle.round.specs.Closing.{OpenRefused}
+use Rattle.round.specs.Seen.{world}
+use Rattle.rounds.proofs.Settling.{one_run, ready_opens, settled_did, settled_settles, settled_ready}
 use Rattle.rounds.proofs.settle.Goals as goal
 
-pub returns-in-Err : goal.returns-in-Err
-returns-in-Err g c =
-    let why = c.in-Err.ensures in
-    record {
-      did = inl (why.0, why.1, why.2, refl);
-      settles = λ _. (why.0, why.1, why.2, refl);
-      ready = λ _ ready. ready_opens (held c.args.sheet.now) ready why.0;
-    }
+pub returns-in_err-round-clause-ready : goal.returns-in_err-round-clause-ready
+returns-in_err-round-clause-ready g c = λ alike ready. absurd (ready_opens (held c.args.sheet.now) ready c.in_err-round.ensures.0)
 
-pub returns-in-Ok-close : goal.returns-in-Ok-close
-returns-in-Ok-close g c =
+pub returns : goal.returns
+returns g c =
+    let atleast = g.K.Ranking.atleast in
+    let l = g.L.Line in
+    let laws = g.met.K.Ranking.lawful in
     let t = held c.args.sheet.now in
-    let o = c.in-Ok.ensures in
+    let sound = held_sound c.args.sheet.now in
+    let round = c.run.new.round in
+    let o = c.in_ok-round.ensures in
     let ran = c.run.ensures.turns in
-    let end = c.in-Ok-close.ensures in
+    let see : Round → World = λ x. world l.waiting l.capacity l.chosen x c.run.new.records c.run.new.marks c.run.new.line in
+    let unopened : ℕ → ℕ → Type 0 = λ k p. OpenRefused t c.args.records.now c.args.marks.now (l.waiting c.args.line.now) (l.capacity c.args.line.now) k p × (c.run.new.records ≡ c.args.records.now) × (c.run.new.marks ≡ c.args.marks.now) × (c.run.new.line ≡ c.args.line.now) in
+    let without : MatchResult c.close.result (λ x. c.map_err.result ≡ Ok x) (λ e. c.map_err.result ≡ Err e.1) =
+    MatchResult-weaker c.close.result c.map_err.ensures.cases (λ x is. is) (λ e k. let p = err_from_is_err_and c.map_err.result k in p.1 ∙ ap Err (search rules)) in
     record {
-      did = (record { round = c.run.new.round; came = record { first = _; opened = o; made = _; ending = _; ran = ran } }, end.answer);
-      settles = λ alike.
-          let law = end.law _ alike (one_run g.K.Ranking.atleast g.met.K.Ranking.lawful t (held_sound c.args.sheet.now) o ran) in
-          (c.run.new.round, record { closed = end.answer; law = law; whole = law.entire end.answer.closable.settled });
-      ready = λ _ _. tt;
-    }
-
-pub returns-in-Err-close : goal.returns-in-Err-close
-returns-in-Err-close g c =
-    let t = held c.args.sheet.now in
-    let o = c.in-Ok.ensures in
-    let ran = c.run.ensures.turns in
-    let end = c.in-Err-close.ensures in
-    record {
-      did = inr (record { round = c.run.new.round; came = record { first = _; opened = o; made = _; ending = _; ran = ran } }, end.answer.1);
-      settles = λ alike. absurd (closes g.K.Ranking.atleast g.met.K.Ranking.lawful t (held_sound c.args.sheet.now) o ran (end.law _ alike (one_run g.K.Ranking.atleast g.met.K.Ranking.lawful t (held_sound c.args.sheet.now) o ran)) end.answer.1);
-      ready = λ alike _. closes g.K.Ranking.atleast g.met.K.Ranking.lawful t (held_sound c.args.sheet.now) o ran (end.law _ alike (one_run g.K.Ranking.atleast g.met.K.Ranking.lawful t (held_sound c.args.sheet.now) o ran)) end.answer.1;
+      did = settled_did atleast laws t sound see unopened round o ran c.close.result c.map_err.result without c.close.ensures.answer;
+      settles = λ alike. settled_settles atleast laws t sound see unopened round o ran (c.close.ensures.law _ alike (one_run atleast laws t sound o ran)) c.close.result c.map_err.result without c.close.ensures.answer;
+      ready = λ alike ready. settled_ready atleast laws t sound see unopened round o ran (c.close.ensures.law _ alike (one_run atleast laws t sound o ran)) c.close.result c.map_err.result without c.close.ensures.answer;
     }

@@ -1,12 +1,13 @@
-use Rattle.std.proofs.Common.{◌≡◌, ◌⊎◌, arith, below_more}
-use Rattle.records.specs.Records.{state}
+use Rattle.std.proofs.Common.{◌≡◌, ◌⊎◌, rules}
+use Rattle.std.proofs.lemmas.Iterator.{IsFirst-from_position, YieldsList-from_slice}
 use Rattle.sheet.specs.Held.{held}
-use Rattle.round.proofs.Ended.{decided_state, right_state}
+use Rattle.round.proofs.Ended.{undecided_found}
 use Rattle.round.proofs.closing.first_undecided.Goals as goal
 
-pub loop-u-preserved : goal.loop-u-preserved
-loop-u-preserved g c =
-    let rs = c.args.records.now in
-    let u = c.loop-u.u in
-    below_more (λ v. (state rs v ≡ 2) ⊎ (state rs v ≡ 3)) u c.loop-u.invariant
-    (decided_state (state rs u) c.if-records-u-le-WAITS.false (right_state (held c.args.sheet.now) rs u (c.requires.each u (omega (arith, c.requires.long, c.loop-u-test.true)))))
+pub returns : goal.returns
+returns g c =
+    let rs = c.args.ledger.records.now in
+    undecided_found (held c.args.ledger.sheet.now) rs c.position.result c.requires
+    (IsFirst-from_position _ _ c.position.result (λ r. (r.state ≡ 0) ⊎ (r.state ≡ 1)) (λ r. (r.state ≡ 0 → ⊥) × (r.state ≡ 1 → ⊥)) c.position.ensures.ran (YieldsList-from_slice rs c.iter-records.ensures.rest)
+    (λ x q k. search rules)
+    (λ x q k. search rules))

@@ -50,7 +50,7 @@ returns-then-strays g c =
     let facts = fits_facts (held s) w fit in
     let comes = c.in-Some-entry_for.ensures in
     let below = comes_parcel g.K.Ranking.atleast (held s) (held_sound s) c.args.store c.in-Some.note comes.0 in
-    let strays = c.unwrap_or-strays.ensures ∙ ap (λ o. unwrap_or o true) c.record_strays.ensures ∙ strays_here (held s) c.args.records.now c.in-Some.note.addressee facts.records_long below in
+    let strays = c.unwrap_or-strays.ensures ∙ ap (λ o. unwrap_or o true) c.strays.ensures ∙ strays_here (held s) c.args.records.now c.in-Some.note.addressee facts.records_long below in
     let why = wrong_record low fit next comes.0 (sym strays ∙ c.if-strays.true) in
     (why, fetch_not_accepted g.K.Ranking.atleast g.met.K.Ranking.lawful (held s) why, refl)
 
@@ -64,8 +64,9 @@ receive-requires g c =
     let comes = c.in-Some-entry_for.ensures in
     let here = handed_store (g.L.Line.waiting c.args.line.now) (g.L.Line.capacity c.args.line.now) (g.L.Line.chosen c.args.line.now) (g.L.Line.lawful c.args.line.now) c.args.store c.in-Some.note next in
     record {
+      kind = comes.1;
       comes = subst (λ x. stray g.K.Ranking.atleast (held s) x c.in-Some.note ≡ false) (sym here) comes.0;
-      entry = comes.1;
+      entry = comes.2;
       long = facts.marks_long;
       handed = subst (λ x. g.L.Line.chosen c.args.line.now x ≡ Some c.in-Some.note) (sym here) next;
     }
@@ -80,7 +81,7 @@ returns-in_default-receive g c =
     let facts = fits_facts (held s) w fit in
     let comes = c.in-Some-entry_for.ensures in
     let below = comes_parcel g.K.Ranking.atleast (held s) (held_sound s) c.args.store c.in-Some.note comes.0 in
-    let strays = c.unwrap_or-strays.ensures ∙ ap (λ o. unwrap_or o true) c.record_strays.ensures ∙ strays_here (held s) c.args.records.now c.in-Some.note.addressee facts.records_long below in
+    let strays = c.unwrap_or-strays.ensures ∙ ap (λ o. unwrap_or o true) c.strays.ensures ∙ strays_here (held s) c.args.records.now c.in-Some.note.addressee facts.records_long below in
     let none = c.in_default-receive.ensures in
     let many = none.0 in
     let why = fetch_room low fit next comes.0 (sym strays ∙ c.if-strays.false) many.receives many.over in (
@@ -100,7 +101,7 @@ returns g c =
     let facts = fits_facts (held s) w fit in
     let comes = c.in-Some-entry_for.ensures in
     let below = comes_parcel g.K.Ranking.atleast (held s) (held_sound s) c.args.store c.in-Some.note comes.0 in
-    let strays = c.unwrap_or-strays.ensures ∙ ap (λ o. unwrap_or o true) c.record_strays.ensures ∙ strays_here (held s) c.args.records.now c.in-Some.note.addressee facts.records_long below in
+    let strays = c.unwrap_or-strays.ensures ∙ ap (λ o. unwrap_or o true) c.strays.ensures ∙ strays_here (held s) c.args.records.now c.in-Some.note.addressee facts.records_long below in
     let did = c.in-Some-receive.ensures in
     let took = did.0 in
     let turn = c.count_turn.ensures in

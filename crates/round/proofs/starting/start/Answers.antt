@@ -1,13 +1,15 @@
 use Rattle.std.proofs.Common.{◌≡◌, ◌+◌, ◌<◌, ◌≤◌, min, length, sym, refl, ap, ◌∙◌, subst, arith}
+use Rattle.std.proofs.lemmas.Result.{err_from_is_err_and}
 use Rattle.sheet.specs.View.{graph}
 use Rattle.sheet.specs.Held.{held}
 use Rattle.sheet.specs.Graph.{parcels}
 use Rattle.sheet.proofs.Held.{held_sound}
-use Rattle.protocol.specs.Turns.{no_parcel, start_sizes, begun, start_strays, start_room}
+use Rattle.protocol.specs.Turns.{no_parcel, start_sizes, start_room}
 use Rattle.protocol.proofs.Holds.{fits_facts}
 use Rattle.protocol.proofs.Refusals.{start_not_accepted}
 use Rattle.round.specs.Seen.{world}
 use Rattle.round.proofs.Carried.{meant}
+use Rattle.round.proofs.Begun.{refused_start}
 use Rattle.round.proofs.starting.start.Goals as goal
 
 pub returns-then-u-tables : goal.returns-then-u-tables
@@ -21,18 +23,6 @@ returns-then-not-fits_sheet g c =
     let why = start_sizes below (sym c.if-not-fits_sheet.ensures) in
     (why, start_not_accepted g.K.Ranking.atleast g.met.K.Ranking.lawful (held c.args.sheet.now) why, refl)
 
-pub returns-then-state-gt-LONE : goal.returns-then-state-gt-LONE
-returns-then-state-gt-LONE g c =
-    let below : c.args.parcel < parcels (held c.args.sheet.now) = subst (λ x. c.args.parcel < parcels (graph x)) c.tables.ensures c.if-u-tables.false in
-    let why = start_strays below (sym c.if-not-fits_sheet.ensures) c.if-state-gt-LONE.true in
-    (why, start_not_accepted g.K.Ranking.atleast g.met.K.Ranking.lawful (held c.args.sheet.now) why, refl)
-
-pub returns-then-state-ne-IDLE : goal.returns-then-state-ne-IDLE
-returns-then-state-ne-IDLE g c =
-    let below : c.args.parcel < parcels (held c.args.sheet.now) = subst (λ x. c.args.parcel < parcels (graph x)) c.tables.ensures c.if-u-tables.false in
-    let why = begun below (sym c.if-not-fits_sheet.ensures) (omega (arith, c.if-state-ne-IDLE.true)) c.if-state-gt-LONE.false in
-    (why, start_not_accepted g.K.Ranking.atleast g.met.K.Ranking.lawful (held c.args.sheet.now) why, refl)
-
 pub returns-then-count-free : goal.returns-then-count-free
 returns-then-count-free g c =
     let s = c.args.sheet.now in
@@ -40,7 +30,7 @@ returns-then-count-free g c =
     let w = world g.L.Line.waiting g.L.Line.capacity g.L.Line.chosen c.args.round.now c.args.records.now c.args.marks.now c.args.line.now in
     let facts = fits_facts (held s) w (sym c.if-not-fits_sheet.ensures) in
     let m = meant g.K.Ranking.atleast (held s) (held_sound s) c.args.parcel c.args.marks.now below facts.marks_long c.plan_choice-plan.result c.plan_choice-plan.ensures in
-    let why = start_room below (sym c.if-not-fits_sheet.ensures) c.if-state-ne-IDLE.false m.chooses (omega (arith, m.many, c.sending-count.ensures, c.free.ensures, c.if-count-free.true)) in
+    let why = start_room below (sym c.if-not-fits_sheet.ensures) c.in_ok-try_idle.ensures m.chooses (omega (arith, m.many, c.sending-count.ensures, c.free.ensures, c.if-count-free.true)) in
     (why, start_not_accepted g.K.Ranking.atleast g.met.K.Ranking.lawful (held s) why, refl)
 
 pub carry_out-requires : goal.carry_out-requires
@@ -67,7 +57,7 @@ returns g c =
       accepted = record {
         parcel = below;
         fitting = sym c.if-not-fits_sheet.ensures;
-        idle = c.if-state-ne-IDLE.false;
+        idle = c.in_ok-try_idle.ensures;
         record' = c.carry_out.result;
         marks' = c.carry_out.new.marks;
         out = did.out;
@@ -86,3 +76,12 @@ returns g c =
         store_count = turn.stores;
       };
     }
+
+pub returns-in_err-try_idle : goal.returns-in_err-try_idle
+returns-in_err-try_idle g c =
+    let t = held c.args.sheet.now in
+    let w = world g.L.Line.waiting g.L.Line.capacity g.L.Line.chosen c.args.round.now c.args.records.now c.args.marks.now c.args.line.now in
+    let below : c.args.parcel < parcels t = subst (λ x. c.args.parcel < parcels (graph x)) c.tables.ensures c.if-u-tables.false in
+    let p = err_from_is_err_and c.from_residual.result c.from_residual.ensures.1 in
+    let why = refused_start g.K.Ranking.atleast t w c.args.parcel below (sym c.if-not-fits_sheet.ensures) c.in_err-try_idle.field-0.0 c.in_err-try_idle.ensures in
+    rw (p.1, p.2) (why, start_not_accepted g.K.Ranking.atleast g.met.K.Ranking.lawful t why, refl)
