@@ -1,9 +1,11 @@
 -- Memory for the full limits is never too short. Assumes nothing.
-use Rattle.std.proofs.Common.{◌≡◌, ℕ, ◌+◌, Bool, true, cond, List, length, Ok, Err, sym, ap, ◌∙◌, subst, inl, inr, arith}
+use Rattle.std.proofs.Common.{◌≡◌, ℕ, ◌+◌, Bool, true, cond, List, length, Ok, Err, Result, sym, ap, ◌∙◌, subst, inl, inr, arith}
 use Rattle.std.proofs.lemmas.List.FromFn.{length-map-range_with_len}
 use Rattle.std.proofs.lemmas.List.{length-map}
 use Rattle.std.proofs.lemmas.Bool.{both_ways}
 use Rattle.std.proofs.lemmas.Bool.Decides.{nat_tests}
+use Rattle.faults.specs.declared.Refusal.{Refusal}
+use Rattle.faults.specs.Numbers.{number}
 use Rattle.ranking.specs.declared.Cents.{Cents}
 use Rattle.ranking.specs.Kinds.{cents_atleast, cents_key}
 use Rattle.reading.specs.declared.Sizes.{Sizes}
@@ -16,7 +18,10 @@ use Rattle.sheet_text.specs.Pairing.{Memory, Unpaired, by_text, by_memory, by_ou
 use Rattle.sheet_text.specs.Within.{TablesFor, MemoryFor}
 use Rattle.sheet_text.proofs.Texts.{never}
 use Rattle.sheet_text.proofs.Numbers.{number_of}
-use Rattle.door.specs.Answers.{Short}
+use Rattle.sheet_text.specs.Within.{CheckingWithin, PairingWithin}
+use Rattle.door.specs.declared.Answer.{Answer}
+use Rattle.door.specs.declared.Verdict.{Verdict}
+use Rattle.door.specs.Answers.{Answers, Decides, Short}
 
 full_room : {z : Sizes} {t : Tables Cents} → Within z → TablesFor 1024 16384 t → Room z t
 full_room w f = record {
@@ -27,11 +32,11 @@ full_room w f = record {
   editions = omega (arith, w.parcels, f.editions);
 }
 
-by_read : {bs : List ℕ} {before after : Tables Cents} {f : ℕ × ℕ} → TablesFor 1024 16384 before → Outcome cents_key 1 bs before (Err f) after → f.0 ≡ 3 → ⊥
-by_read full (inl (_, (e, _))) is = omega (arith, number_of e)
-by_read full (inr (_, _, inl (_, (e, _)))) is = omega (arith, number_of e)
+by_read : {bs : List ℕ} {before after : Tables Cents} {f : Refusal × ℕ} → TablesFor 1024 16384 before → Outcome cents_key 1 bs before (Err f) after → number f.0 ≡ 3 → ⊥
+by_read full (inl (_, (e, _))) is = omega (arith, is, number_of e)
+by_read full (inr (_, _, inl (_, (e, _)))) is = omega (arith, is, number_of e)
 by_read full (inr (_, _, inr (within, inl (short, _)))) is = short (full_room within full)
-by_read full (inr (_, _, inr (_, inr (_, inl (_, _, (e, _)))))) is = omega (arith, number_of e)
+by_read full (inr (_, _, inr (_, inr (_, inl (_, _, (e, _)))))) is = omega (arith, is, number_of e)
 by_read full (inr (_, _, inr (_, inr (_, inr (_, _, _, e, _))))) is = never (sym e)
 
 -- what was read is within the limits
@@ -74,3 +79,13 @@ only_short full (by_memory checks short _) is =
     let within = read_within checks.reads.read.outcome in
     absurd (short (record { records = omega (arith, within.parcels, full.records); marks = omega (arith, within.entries, full.marks); slots = omega (arith, within.entries, full.slots) }))
 only_short full (by_out rounds less) is = record { listing = _; records = _; marks = _; totals = _; listed = rounds.checks.reads.listed; settled = rounds.settled; less = less }
+
+-- a text that is refused with 3 by the check is none, and by the pairing one whose result text has no room
+pub roomy : {bs : List ℕ} (v : Verdict) (q : Result Sizes (Refusal × ℕ)) → Decides v q → CheckingWithin 1024 16384 bs q → v.number ≡ 3 → ⊥
+roomy v (Ok _) shown told is = omega (arith, is, ap (λ (v : Verdict). v.number) shown)
+roomy v (Err f) shown told is = text_roomy told.sized told.checking (sym (ap (λ (v : Verdict). v.number) shown.0) ∙ is)
+
+pub short_answer : {bs old new : List ℕ} (a : Answer) (q : Result ℕ (Refusal × ℕ)) → Answers a q → PairingWithin 1024 16384 bs old q new → a.number ≡ 3 → Short bs (length old)
+short_answer a (Ok _) shown told is = absurd (omega (arith, is, ap (λ (a : Answer). a.number) shown))
+short_answer {bs} a (Err f) shown told is =
+    subst (λ old. Short bs (length old)) told.out_before (only_short told.sized told.pairing.0 (sym (ap (λ (a : Answer). a.number) shown.0) ∙ is))

@@ -13,7 +13,7 @@ use Rattle.pairing.specs.Above.{entry_above}
 use Rattle.pairing.proofs.Compared.{cents_lawful}
 use Rattle.choosing.specs.Top.{Top}
 use Rattle.line.specs.declared.Note.{Note}
-use Rattle.records.specs.declared.Record.{Record}
+use Rattle.records.specs.declared.record.Record.{Record}
 use Rattle.records.specs.Records.{record_of, state, chosen, chosen_place}
 use Rattle.protocol.specs.World.{World, fits}
 use Rattle.protocol.specs.Marks.{open', bidden, bid, drop}

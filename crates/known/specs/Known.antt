@@ -9,8 +9,8 @@ use Rattle.sheet.specs.Check.{Passed, Refused}
 use Rattle.pairing.specs.Pairs.{joint, sheet_pairs}
 use Rattle.pairing.specs.Above.{greedy_pairing}
 use Rattle.pairing.specs.Theorems.{pair_cents}
-use Rattle.records.specs.declared.Record.{Record}
-use Rattle.records.specs.declared.Totals.{Totals}
+use Rattle.records.specs.declared.record.Record.{Record}
+use Rattle.records.specs.declared.ledger.Totals.{Totals}
 use Rattle.records.specs.Records.{state, chosen, RecordsPair}
 use Rattle.protocol.specs.World.{World}
 use Rattle.protocol.specs.Turns.{Started, Fetched, StartRefused}

@@ -5,11 +5,8 @@
 ghost use Rattle.std.specs.Prelude.{◌≡◌, ◌<◌, ◌≤◌, min, length, take, Err};
 ghost use Rattle.sheet_text.specs.Within.{PairingWithin};
 
-use faults::{Fault, ROOM};
-use lines::BLANK;
-use ranking::Cents;
-use records::IDLE_RECORD;
-use sheet_text::pair_text;
+use faults::{Fault, Refusal};
+use sheet_text::{memory_for, pair_text};
 use std::io;
 use std::io::{Read, Write};
 
@@ -44,32 +41,14 @@ fn front<T>(table: &[T], count: usize) -> &[T]
 
 // Pairs the text, in memory for the most parcels and entries, unless it is too long.
 fn pair(text: &[u8], out: &mut [u8]) -> Result<usize, Fault>
-    ensures long { 65536 < length text.now → (result ≡ Err (3, 0)) × (out.new ≡ out.old) }
+    ensures long { 65536 < length text.now → (result ≡ Err (Refusal.Room, 0)) × (out.new ≡ out.old) }
     ensures paired { length text.now ≤ 65536 → PairingWithin 64 512 text.now out.old result out.new }
 {
     if text.len() > MOST_BYTES {
-        return Err((ROOM, 0));
+        return Err((Refusal::Room, 0));
     }
-    let mut starts = [0; MOST_PARCELS + 1];
-    let mut others = [0; MOST_ENTRIES];
-    let mut keys = [Cents(0); MOST_ENTRIES];
-    let mut stores = [0; MOST_PARCELS];
-    let mut editions = [0; MOST_PARCELS];
-    let mut records = [IDLE_RECORD; MOST_PARCELS];
-    let mut marks = [0; MOST_ENTRIES];
-    let mut slots = [BLANK; MOST_ENTRIES];
-    pair_text(
-        text,
-        &mut starts,
-        &mut others,
-        &mut keys,
-        &mut stores,
-        &mut editions,
-        &mut records,
-        &mut marks,
-        &mut slots,
-        out,
-    )
+    let mut memory = memory_for!(MOST_PARCELS, MOST_ENTRIES);
+    pair_text(text, &mut memory, out)
 }
 
 fn main(rt: HostRuntime) -> io::Result<()> {
@@ -78,6 +57,6 @@ fn main(rt: HostRuntime) -> io::Result<()> {
     let filled = fill(&mut rt.stdin(), &mut input)?;
     match pair(front(&input, filled), &mut out) {
         Ok(count) => rt.stdout().write_all(front(&out, count)),
-        Err((number, place)) => println!(rt; "refused,{number},{place}"),
+        Err((refusal, place)) => println!(rt; "refused,{refusal},{place}"),
     }
 }

@@ -1,11 +1,13 @@
 -- A round of a checked sheet, and the text of its result. Assumes nothing.
 use Rattle.std.proofs.Common.{◌≡◌, ℕ, ◌<◌, List, length, Ok, Err, Result, sym, refl, ◌∙◌, subst}
+use Rattle.faults.specs.declared.Refusal.{Refusal}
+use Rattle.faults.specs.Numbers.{number}
 use Rattle.ranking.specs.declared.Cents.{Cents}
 use Rattle.reading.specs.Listing.{Listing}
 use Rattle.reading.specs.Outcome.{laid}
 use Rattle.sheet.specs.Graph.{Graph}
-use Rattle.records.specs.declared.Record.{Record}
-use Rattle.records.specs.declared.Totals.{Totals}
+use Rattle.records.specs.declared.record.Record.{Record}
+use Rattle.records.specs.declared.ledger.Totals.{Totals}
 use Rattle.records.specs.Right.{Right}
 use Rattle.records.specs.Listed.{lower_pairs}
 use Rattle.records.proofs.Refusals.{refused_not_right}
@@ -33,15 +35,15 @@ only_short : {t : Graph Cents} {rs : List Record} {x : Totals} {room k p : ℕ} 
 only_short {t} {rs} right (by_records r) = absurd (refused_not_right t rs r right)
 only_short right (short _ less) = (refl, refl, less)
 
-pub printed_or_short : {t : Graph Cents} {rs : List Record} {ms : List ℕ} {x : Totals} (old new : List ℕ) (r : Result ℕ (ℕ × ℕ)) → Settled t rs ms x → elim r as (λ _. Type 0) [ Ok count ↦ Printed t rs x old new count | Err f ↦ TextRefused t rs x (length old) f.0 f.1 × (new ≡ old) ] → SettlesAndPrints t rs ms old r new
+pub printed_or_short : {t : Graph Cents} {rs : List Record} {ms : List ℕ} {x : Totals} (old new : List ℕ) (r : Result ℕ (Refusal × ℕ)) → Settled t rs ms x → elim r as (λ _. Type 0) [ Ok count ↦ Printed t rs x old new count | Err f ↦ TextRefused t rs x (length old) (number f.0) f.1 × (new ≡ old) ] → SettlesAndPrints t rs ms old r new
 printed_or_short {x} old new (Ok count) s h = (x, s, h)
 printed_or_short {t} {x} old new (Err f) s h =
     let why = only_short (subst (Right t) s.recorded s.settles.closed.closable.right) h.0 in
-    (x, s, why.2, λ i. (why.0 i, why.1 i), h.1)
+    (x, s, why.2, why.0, why.1, h.1)
 
 -- from the settled sheet to what pairing its text answers
-pub paired_or_short : {bs : List ℕ} {l : Listing} (before after : Memory) (rs : List Record) (ms : List ℕ) (r : Result ℕ (ℕ × ℕ)) → Checks bs before.tables after.tables l → Enough l.sizes before → after.records ≡ laid rs before.records → after.marks ≡ laid ms before.marks → SettlesAndPrints (sheet_of l) rs ms before.out r after.out → Pairing bs before r after
+pub paired_or_short : {bs : List ℕ} {l : Listing} (before after : Memory) (rs : List Record) (ms : List ℕ) (r : Result ℕ (Refusal × ℕ)) → Checks bs before.tables after.tables l → Enough l.sizes before → after.records ≡ laid rs before.records → after.marks ≡ laid ms before.marks → SettlesAndPrints (sheet_of l) rs ms before.out r after.out → Pairing bs before r after
 paired_or_short {l} before after rs ms (Ok count) checks enough recorded marked (x, s, printed) =
     record { listing = l; records = rs; marks = ms; totals = x; rounds = record { checks = checks; enough = enough; settled = s; recorded = recorded; marked = marked }; printed = printed }
-paired_or_short {bs} before after rs ms (Err f) checks enough recorded marked (x, s, less, is, kept) =
-    (subst (λ (g : ℕ × ℕ). Unpaired bs before after g.0 g.1) (sym is) (by_out (record { checks = checks; enough = enough; settled = s; recorded = recorded; marked = marked }) less), kept)
+paired_or_short {bs} before after rs ms (Err f) checks enough recorded marked (x, s, less, is, at, kept) =
+    (subst (λ k. Unpaired bs before after k f.1) (sym is) (subst (Unpaired bs before after 3) (sym at) (by_out (record { checks = checks; enough = enough; settled = s; recorded = recorded; marked = marked }) less)), kept)

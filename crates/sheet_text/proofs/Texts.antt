@@ -1,12 +1,13 @@
 -- A text that was read, and the sheet that it writes. Assumes nothing.
-use Rattle.std.proofs.Common.{◌≡◌, ℕ, ◌+◌, List, Ok, Err, Result, sym, ap, ◌∙◌, subst, inl, inr, arith}
+use Rattle.std.proofs.Common.{◌≡◌, ℕ, ◌+◌, ◌≤◌, List, length, drop, length-append, Ok, Err, Result, sym, ap, ◌∙◌, subst, inl, inr, arith}
 use Rattle.std.proofs.lemmas.List.FromFn.{length-map-range_with_len}
 use Rattle.std.proofs.lemmas.List.{length-map, take_at}
+use Rattle.faults.specs.declared.Refusal.{Refusal}
 use Rattle.ranking.specs.declared.Cents.{Cents}
 use Rattle.ranking.specs.Kinds.{cents_atleast, cents_key}
 use Rattle.reading.specs.declared.Sizes.{Sizes}
 use Rattle.reading.specs.Listing.{Listing, Listed}
-use Rattle.reading.specs.Outcome.{Tables, Outcome, Read, filled}
+use Rattle.reading.specs.Outcome.{Tables, Outcome, Read, Room, filled, laid}
 use Rattle.sheet.specs.Graph.{Graph, parcels, entries}
 use Rattle.sheet.specs.Check.{Passed, Refused}
 use Rattle.sheet_text.specs.Checking.{sheet_of, first_places, Reads, Checks, TextRefused, by_check}
@@ -30,7 +31,7 @@ pub record Found (bs : List ℕ) (before after : Tables Cents) (z : Sizes) : Typ
   pub parcels_many : parcels (sheet_of listing) ≡ z.parcels
   pub entries_many : entries (sheet_of listing) ≡ z.entries
 
-pub never : {A : Type 0} {z : Sizes} {f : ℕ × ℕ} → ◌≡◌ {A = Result Sizes (ℕ × ℕ)} (Ok z) (Err f) → A
+pub never : {A : Type 0} {z : Sizes} {f : Refusal × ℕ} → ◌≡◌ {A = Result Sizes (Refusal × ℕ)} (Ok z) (Err f) → A
 never e = let wrong : ◌≡◌ {A = ℕ} 0 1 = cc in absurd (omega arith)
 
 found_by : {bs : List ℕ} {before after : Tables Cents} {z : Sizes} → Read cents_key 1 bs before (Ok z) after → Outcome cents_key 1 bs before (Ok z) after → Found bs before after z
@@ -51,6 +52,25 @@ found_by {bs} {before} {after} {z} h (inr (y, _, inr (_, inr (_, inr (l, listed,
 
 pub found : {bs : List ℕ} {before after : Tables Cents} {z : Sizes} → Read cents_key 1 bs before (Ok z) after → Found bs before after z
 found h = found_by h h.outcome
+
+laid_long : {X : Type 0} (vs old : List X) (n : ℕ) → length vs ≡ n → n ≤ length (laid vs old)
+laid_long vs old n is = omega (arith, length-append vs (drop (length vs) old), is)
+
+-- tables that hold what was read have room for it
+pub room_after : {bs : List ℕ} {before after : Tables Cents} {z : Sizes} → Found bs before after z → Room z after
+room_after {before} {after} {z} text =
+    let l = text.listing in
+    let n = length-map l.parcels _ ∙ text.reads.listed.all_parcels in
+    let e = length-map l.entries _ ∙ text.reads.listed.all_entries in
+    subst (λ (s : Sizes). Room s after) text.sizes
+    (subst (Room l.sizes) (sym text.reads.values)
+    (record {
+      starts = laid_long _ before.starts _ (length-map-range_with_len _ 0 (l.sizes.parcels + 1));
+      others = laid_long _ before.others _ e;
+      keys = laid_long _ before.keys _ (length-map l.entries _ ∙ text.reads.listed.all_entries);
+      stores = laid_long _ before.stores _ n;
+      editions = laid_long _ before.editions _ (length-map l.parcels _ ∙ text.reads.listed.all_parcels);
+    }))
 
 -- what the check says of the first places, it says of the sheet
 module _ {bs : List ℕ} {before after : Tables Cents} {z : Sizes} {t : Graph Cents} (text : Found bs before after z) (is : t ≡ first_places z after) where

@@ -1,5 +1,7 @@
 -- What comes of reading and checking the text of a cents sheet. Assumes nothing.
 use Rattle.std.specs.Prelude.{◌≡◌, ℕ, ◌+◌, List, map, take, Ok, Err, Result}
+use Rattle.faults.specs.declared.Refusal.{Refusal}
+use Rattle.faults.specs.Numbers.{number}
 use Rattle.ranking.specs.declared.Cents.{Cents}
 use Rattle.ranking.specs.Kinds.{cents_atleast, cents_key}
 use Rattle.reading.specs.declared.Sizes.{Sizes}
@@ -43,10 +45,10 @@ pub record Checks (bs : List ℕ) (before after : Tables Cents) (l : Listing) : 
 
 -- the text is refused with this number at this place: by reading, or else by the check
 pub data TextRefused (bs : List ℕ) (before after : Tables Cents) : ℕ → ℕ → Type 0 where
-  by_reading : {k p : ℕ} → Read cents_key 1 bs before (Err (k, p)) after → TextRefused bs before after k p
+  by_reading : {r : Refusal} {p : ℕ} → Read cents_key 1 bs before (Err (r, p)) after → TextRefused bs before after (number r) p
   by_check : {l : Listing} {k p : ℕ} → Reads bs before after l → (Passed cents_atleast (sheet_of l) → ⊥) → Refused cents_atleast (sheet_of l) k p → TextRefused bs before after k p
 
 -- what checking a text answers: the sizes of its sheet, or why it is refused
-abbrev pub Checking : List ℕ → Tables Cents → Result Sizes (ℕ × ℕ) → Tables Cents → Type 0
+abbrev pub Checking : List ℕ → Tables Cents → Result Sizes (Refusal × ℕ) → Tables Cents → Type 0
 Checking bs before (Ok z) after = (l : Listing) × (l.sizes ≡ z) × Checks bs before after l
-Checking bs before (Err f) after = TextRefused bs before after f.0 f.1
+Checking bs before (Err f) after = TextRefused bs before after (number f.0) f.1

@@ -1,3 +1,4 @@
 pub mod Checking
 pub mod Pairing
 pub mod Within
+pub mod Lent

@@ -1,13 +1,15 @@
 -- What comes of pairing the text of a cents sheet. Assumes nothing.
 use Rattle.std.specs.Prelude.{◌≡◌, ℕ, ◌<◌, ◌≤◌, List, length, Ok, Err, Result}
+use Rattle.faults.specs.declared.Refusal.{Refusal}
+use Rattle.faults.specs.Numbers.{number}
 use Rattle.ranking.specs.declared.Cents.{Cents}
 use Rattle.ranking.specs.Kinds.{cents_atleast}
 use Rattle.reading.specs.declared.Sizes.{Sizes}
 use Rattle.reading.specs.Listing.{Listing}
 use Rattle.reading.specs.Outcome.{Tables, laid}
 use Rattle.sheet.specs.Graph.{Graph}
-use Rattle.records.specs.declared.Record.{Record}
-use Rattle.records.specs.declared.Totals.{Totals}
+use Rattle.records.specs.declared.record.Record.{Record}
+use Rattle.records.specs.declared.ledger.Totals.{Totals}
 use Rattle.records.specs.Listed.{lower_pairs}
 use Rattle.results.specs.Text.{result_text, Printed}
 use Rattle.chains.specs.declared.Slot.{Slot}
@@ -70,11 +72,11 @@ pub data Unpaired (bs : List ℕ) (before after : Memory) : ℕ → ℕ → Type
   by_out : {l : Listing} {rs : List Record} {ms : List ℕ} {x : Totals} → Rounds bs before after l rs ms x → length before.out < length (result_text x (lower_pairs (sheet_of l) rs)) → Unpaired bs before after 3 0
 
 -- what pairing a text answers: how many bytes it wrote, or why it is refused, and then `out` stays
-abbrev pub Pairing : List ℕ → Memory → Result ℕ (ℕ × ℕ) → Memory → Type 0
+abbrev pub Pairing : List ℕ → Memory → Result ℕ (Refusal × ℕ) → Memory → Type 0
 Pairing bs before (Ok count) after = Paired bs before after count
-Pairing bs before (Err f) after = Unpaired bs before after f.0 f.1 × (after.out ≡ before.out)
+Pairing bs before (Err f) after = Unpaired bs before after (number f.0) f.1 × (after.out ≡ before.out)
 
 -- what settling a checked sheet and printing it answers, where the memory for the round suffices
-abbrev pub SettlesAndPrints : Graph Cents → List Record → List ℕ → List ℕ → Result ℕ (ℕ × ℕ) → List ℕ → Type 0
+abbrev pub SettlesAndPrints : Graph Cents → List Record → List ℕ → List ℕ → Result ℕ (Refusal × ℕ) → List ℕ → Type 0
 SettlesAndPrints t rs ms old (Ok count) new = (x : Totals) × Settled t rs ms x × Printed t rs x old new count
-SettlesAndPrints t rs ms old (Err f) new = (x : Totals) × Settled t rs ms x × (length old < length (result_text x (lower_pairs t rs))) × (f ≡ (3, 0)) × (new ≡ old)
+SettlesAndPrints t rs ms old (Err f) new = (x : Totals) × Settled t rs ms x × (length old < length (result_text x (lower_pairs t rs))) × (number f.0 ≡ 3) × (f.1 ≡ 0) × (new ≡ old)

@@ -1,5 +1,6 @@
 -- Checking and pairing a text with memory of one's own, for so many parcels and entries. Assumes nothing.
 use Rattle.std.specs.Prelude.{◌≡◌, ℕ, ◌+◌, List, length, Result}
+use Rattle.faults.specs.declared.Refusal.{Refusal}
 use Rattle.ranking.specs.declared.Cents.{Cents}
 use Rattle.reading.specs.declared.Sizes.{Sizes}
 use Rattle.reading.specs.Outcome.{Tables}
@@ -22,14 +23,14 @@ pub record MemoryFor (n e : ℕ) (m : Memory) : Type 0 where
   pub slots : length m.slots ≡ e
 
 -- what checking a text answers with tables for n parcels and e entries
-pub record CheckingWithin (n e : ℕ) (bs : List ℕ) (r : Result Sizes (ℕ × ℕ)) : Type 0 where
+pub record CheckingWithin (n e : ℕ) (bs : List ℕ) (r : Result Sizes (Refusal × ℕ)) : Type 0 where
   pub before : Tables Cents
   pub after : Tables Cents
   pub sized : TablesFor n e before
   pub checking : Checking bs before r after
 
 -- what pairing a text answers with memory for n parcels and e entries, and what `out` holds before and after
-pub record PairingWithin (n e : ℕ) (bs old : List ℕ) (r : Result ℕ (ℕ × ℕ)) (new : List ℕ) : Type 0 where
+pub record PairingWithin (n e : ℕ) (bs old : List ℕ) (r : Result ℕ (Refusal × ℕ)) (new : List ℕ) : Type 0 where
   pub before : Memory
   pub after : Memory
   pub sized : MemoryFor n e before

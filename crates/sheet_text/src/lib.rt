@@ -1,47 +1,94 @@
 //! From the text of a cents sheet to its pairing, in memory that the caller lends.
 #![tactic(auto)]
 
-ghost use Rattle.std.specs.Prelude.{◌≡◌, ◌≤◌, length};
+ghost use Rattle.std.specs.Prelude.{◌≡◌, ◌≤◌, [], length, Decides};
 ghost use Rattle.ranking.specs.Kinds.{cents_atleast};
-ghost use Rattle.reading.specs.Outcome.{tables, Room};
+ghost use Rattle.reading.specs.Outcome.{lent, SameSlices, Room};
 ghost use Rattle.sheet.specs.Graph.{parcels, entries};
 ghost use Rattle.sheet.specs.Check.{Alike};
 ghost use Rattle.sheet.specs.View.{graph};
 ghost use Rattle.sheet.specs.Held.{held};
 ghost use Rattle.sheet_text.specs.Checking.{first_places, Checking};
-ghost use Rattle.sheet_text.specs.Pairing.{memory, Pairing, SettlesAndPrints};
+ghost use Rattle.sheet_text.specs.Pairing.{Enough, Pairing, SettlesAndPrints};
+ghost use Rattle.sheet_text.specs.Lent.{lent_memory, SameMemory};
 
 use chains::Slot;
-use faults::{Fault, ROOM};
+use faults::{Fault, Refusal};
 use line::MAX_NOTES;
-use lines::queue::Queue;
-use ranking::Cents;
+pub use lines::BLANK;
+use lines::Queue;
+pub use ranking::Cents;
+pub use reading::TablesMut;
 use reading::{Sizes, read};
-use records::Record;
+use records::Ledger;
+pub use records::Record;
 use results::result_text;
 use rounds::settle;
 use sheet::{Sheet, Tables, check};
 
+/// The memory in which the text of a sheet is paired, lent to be written: the sheet's tables, and the records, marks and
+/// slots of its round. Each may be longer than needed.
+#[derive(Drop)]
+pub struct MemoryMut<'a> {
+    pub tables: TablesMut<'a, Cents>,
+    pub records: &'a mut [Record],
+    pub marks: &'a mut [u8],
+    pub slots: &'a mut [Slot],
+}
+
+impl MemoryMut<'_> {
+    // Whether there is a record for each parcel, and a mark and a slot for each entry.
+    fn is_enough(&self, sizes: Sizes) -> bool
+        ensures { Decides result (Enough sizes (lent_memory self.now [])) }
+    {
+        let entries = sizes.entries as usize;
+        sizes.parcels as usize <= self.records.len()
+            && entries <= self.marks.len()
+            && entries <= self.slots.len()
+    }
+}
+
+/// Tables for a sheet of so many parcels and entries, on the caller's stack. It is a macro, since an array of a
+/// parameter's length may have no place one longer.
+#[macro_export]
+macro_rules! tables_for {
+    ($parcels:expr, $entries:expr) => {
+        $crate::TablesMut {
+            starts: &mut [0; $parcels + 1],
+            others: &mut [0; $entries],
+            keys: &mut [$crate::Cents(0); $entries],
+            stores: &mut [0; $parcels],
+            editions: &mut [0; $parcels],
+        }
+    };
+}
+
+/// Memory for a sheet of so many parcels and entries, on the caller's stack.
+#[macro_export]
+macro_rules! memory_for {
+    ($parcels:expr, $entries:expr) => {
+        $crate::MemoryMut {
+            tables: $crate::tables_for!($parcels, $entries),
+            records: &mut [$crate::Record::IDLE; $parcels],
+            marks: &mut [0; $entries],
+            slots: &mut [$crate::BLANK; $entries],
+        }
+    };
+}
+
 // The first places of the tables, which a sheet of these sizes takes.
-fn cut<'a>(
-    sizes: Sizes,
-    starts: &'a [u32],
-    others: &'a [u32],
-    keys: &'a [Cents],
-    stores: &'a [u32],
-    editions: &'a [u16],
-) -> Tables<'a, Cents>
-    requires { Room sizes (tables starts.now others.now keys.now stores.now editions.now) }
-    ensures { graph result ≡ first_places sizes (tables starts.now others.now keys.now stores.now editions.now) }
+fn cut<'a>(sizes: Sizes, tables: &'a TablesMut<'_, Cents>) -> Tables<'a, Cents>
+    requires { Room sizes (lent tables.now) }
+    ensures { graph result ≡ first_places sizes (lent tables.now) }
 {
     let n = sizes.parcels as usize;
     let e = sizes.entries as usize;
     Tables {
-        starts: &starts[..n + 1],
-        others: &others[..e],
-        keys: &keys[..e],
-        stores: &stores[..n],
-        editions: &editions[..n],
+        starts: &tables.starts[..n + 1],
+        others: &tables.others[..e],
+        keys: &tables.keys[..e],
+        stores: &tables.stores[..n],
+        editions: &tables.editions[..n],
         store_count: sizes.stores,
     }
 }
@@ -50,20 +97,13 @@ fn cut<'a>(
 ///
 /// Refuses what reading refuses (1 to 3), and then alters no table; else what the check refuses (4 to 8), and then the
 /// tables hold what was read.
-pub fn check_text(
-    text: &[u8],
-    starts: &mut [u32],
-    others: &mut [u32],
-    keys: &mut [Cents],
-    stores: &mut [u32],
-    editions: &mut [u16],
-) -> Result<Sizes, Fault>
-    ensures { Checking text.now (tables starts.old others.old keys.old stores.old editions.old) result (tables starts.new others.new keys.new stores.new editions.new) }
+pub fn check_text(text: &[u8], tables: &mut TablesMut<'_, Cents>) -> Result<Sizes, Fault>
+    ensures checks { Checking text.now (lent tables.old) result (lent tables.new) }
+    ensures slices { SameSlices tables.old tables.new }
 {
-    let sizes = read(text, starts, others, keys, stores, editions)?;
-    let tables = cut(sizes, starts, others, keys, stores, editions);
+    let sizes = read(text, tables)?;
     let mut sheet = Sheet::empty();
-    check(&mut sheet, tables)?;
+    check(&mut sheet, cut(sizes, tables))?;
     Ok(sizes)
 }
 
@@ -83,7 +123,7 @@ fn settle_sheet(
 {
     let mut queue = Queue::new(slots, MAX_NOTES);
     let totals = settle(sheet, records, marks, &mut queue)?;
-    result_text(sheet, records, totals, out)
+    result_text(Ledger { sheet, records }, totals, out)
 }
 
 /// Pairs the text of a cents sheet: reads and checks it, settles a round of it over a queue, and writes the result text
@@ -93,28 +133,18 @@ fn settle_sheet(
 /// Refuses, and then leaves `out` as it was: what reading refuses (1 to 3), what the check refuses (4 to 8), fewer
 /// records than parcels or fewer marks or slots than entries (3, at 0), and an `out` that is shorter than the result
 /// text (3, at 0).
-pub fn pair_text(
-    text: &[u8],
-    starts: &mut [u32],
-    others: &mut [u32],
-    keys: &mut [Cents],
-    stores: &mut [u32],
-    editions: &mut [u16],
-    records: &mut [Record],
-    marks: &mut [u8],
-    slots: &mut [Slot],
-    out: &mut [u8],
-) -> Result<usize, Fault>
-    ensures { Pairing text.now (memory (tables starts.old others.old keys.old stores.old editions.old) records.old marks.old slots.old out.old) result (memory (tables starts.new others.new keys.new stores.new editions.new) records.new marks.new slots.new out.new) }
+pub fn pair_text(text: &[u8], memory: &mut MemoryMut<'_>, out: &mut [u8]) -> Result<usize, Fault>
+    ensures pairs { Pairing text.now (lent_memory memory.old out.old) result (lent_memory memory.new out.new) }
+    ensures slices { SameMemory memory.old memory.new }
 {
-    let sizes = read(text, starts, others, keys, stores, editions)?;
-    let tables = cut(sizes, starts, others, keys, stores, editions);
+    let sizes = read(text, &mut memory.tables)?;
+    let enough = memory.is_enough(sizes);
     let mut sheet = Sheet::empty();
-    check(&mut sheet, tables)?;
-    let n = sizes.parcels as usize;
-    let e = sizes.entries as usize;
-    if records.len() < n || marks.len() < e || slots.len() < e {
-        return Err((ROOM, 0));
+    check(&mut sheet, cut(sizes, &memory.tables))?;
+    if !enough {
+        return Err((Refusal::Room, 0));
     }
-    settle_sheet(&sheet, &mut records[..n], &mut marks[..e], slots, out)
+    let records = &mut memory.records[..sizes.parcels as usize];
+    let marks = &mut memory.marks[..sizes.entries as usize];
+    settle_sheet(&sheet, records, marks, memory.slots, out)
 }

@@ -1,7 +1,7 @@
 -- Outright pairing asks only after the lengths of its tables, which stay. Assumes nothing.
 use Rattle.std.proofs.Common.{◌≡◌, ℕ, ◌<◌, ◌≤◌, Bool, List, length, sym, ◌∙◌, subst, arith}
 use Rattle.sheet.specs.Graph.{Graph, parcels}
-use Rattle.records.specs.declared.Record.{Record}
+use Rattle.records.specs.declared.record.Record.{Record}
 use Rattle.outright.specs.Outright.{Refused, short_worklist, wrong_length, Done}
 
 module _ {K : Type 0} (atleast : K → K → Bool) (t : Graph K) {rs rs₀ : List Record} {work work₀ : List ℕ} (records : length rs ≡ length rs₀) (worklist : length work ≡ length work₀) where

@@ -6,7 +6,7 @@ use Rattle.protocol.specs.Runs.{Ran, other_sizes, still, spent, refused_start, r
 use Rattle.protocol.specs.declared.Ending.{Ending}
 use Rattle.protocol.proofs.Holds.{fits_facts}
 use Rattle.round.specs.Closing.{Closed}
-use Rattle.records.specs.declared.Totals.{Totals}
+use Rattle.records.specs.declared.ledger.Totals.{Totals}
 use Rattle.rounds.specs.Settling.{CameTo, Ready}
 
 module _ {K : Type 0} (atleast : K → K → Bool) (t : Graph K) where

@@ -5,12 +5,11 @@ ghost use Rattle.sheet.specs.Held.{held};
 ghost use Rattle.sheet.specs.View.{graph};
 ghost use Rattle.stages.specs.Answers.{verdict_of, outcome_of, Answers, listed, Paired, CheckedPaired, Settled, CheckedSettled};
 
-use crate::answers::{Outcome, Verdict, show_outcome, show_verdict};
+use crate::answers::{Outcome, Verdict};
 use chains::Slot;
 use faults::Fault;
 use line::Line;
-use lines::pigeonholes::Pigeonholes;
-use lines::queue::Queue;
+use lines::{Pigeonholes, Queue};
 use outright::pair_outright;
 use ranking::Cents;
 use records::{Record, Totals};
@@ -26,10 +25,8 @@ fn pair_again(
 ) -> Result<(), Fault>
     ensures { Paired (held sheet.now) repeat records.old worklist.old result records.new worklist.new }
 {
-    for made in 0..repeat {
-        if let Err(fault) = pair_outright(sheet, records, worklist) {
-            return Err(fault);
-        }
+    for _ in 0..repeat {
+        pair_outright(sheet, records, worklist)?;
     }
     Ok(())
 }
@@ -44,10 +41,8 @@ fn check_and_pair(
     ensures { CheckedPaired (graph tables.entry) repeat records.old worklist.old result records.new worklist.new }
 {
     let mut sheet = Sheet::empty();
-    match check(&mut sheet, tables) {
-        Ok(()) => pair_again(&sheet, records, worklist, repeat),
-        Err(fault) => Err(fault),
-    }
+    check(&mut sheet, tables)?;
+    pair_again(&sheet, records, worklist, repeat)
 }
 
 /// Checks the tables, and then pairs their sheet outright, so many times one after the other.
@@ -73,16 +68,8 @@ pub extern "C" fn stages_pair_outright<'a>(
         editions,
         store_count,
     };
-    show_verdict(check_and_pair(tables, records, worklist, repeat))
+    Verdict::from(check_and_pair(tables, records, worklist, repeat))
 }
-
-/// What is counted before the first round.
-const NOTHING: Totals = Totals {
-    pairs: 0,
-    lone: 0,
-    sent: 0,
-    turns: 0,
-};
 
 // Settles so many rounds over the line, one after the other.
 fn settle_again<L: Line>(
@@ -95,12 +82,9 @@ fn settle_again<L: Line>(
     requires { Alike cents_atleast (held sheet.now) }
     ensures { Settled (held sheet.now) repeat (L.Line.waiting line.old) (L.Line.capacity line.old) records.old marks.old result records.new marks.new }
 {
-    let mut totals = NOTHING;
-    for made in 0..repeat {
-        match settle(sheet, records, marks, line) {
-            Ok(settled) => totals = settled,
-            Err(fault) => return Err(fault),
-        }
+    let mut totals = Totals::default();
+    for _ in 0..repeat {
+        totals = settle(sheet, records, marks, line)?;
     }
     Ok(totals)
 }
@@ -116,10 +100,8 @@ fn check_and_settle<L: Line>(
     ensures { CheckedSettled (graph tables.entry) repeat (L.Line.waiting line.old) (L.Line.capacity line.old) records.old marks.old result records.new marks.new }
 {
     let mut sheet = Sheet::empty();
-    match check(&mut sheet, tables) {
-        Ok(()) => settle_again(&sheet, records, marks, line, repeat),
-        Err(fault) => Err(fault),
-    }
+    check(&mut sheet, tables)?;
+    settle_again(&sheet, records, marks, line, repeat)
 }
 
 /// Checks the tables, and then settles rounds of their sheet over one queue, so many one after the other. The queue has
@@ -149,7 +131,7 @@ pub extern "C" fn stages_settle_queue<'a>(
         store_count,
     };
     let mut queue = Queue::new(slots, capacity);
-    show_outcome(check_and_settle(tables, records, marks, &mut queue, repeat))
+    Outcome::from(check_and_settle(tables, records, marks, &mut queue, repeat))
 }
 
 /// Checks the tables, and then settles rounds of their sheet over the same pigeonholes, so many one after the other. The
@@ -179,5 +161,5 @@ pub extern "C" fn stages_settle_pigeonholes<'a>(
         store_count,
     };
     let mut holes = Pigeonholes::new(slots, capacity);
-    show_outcome(check_and_settle(tables, records, marks, &mut holes, repeat))
+    Outcome::from(check_and_settle(tables, records, marks, &mut holes, repeat))
 }

@@ -5,9 +5,9 @@ use faults::Fault;
 use reading::Sizes;
 use records::Totals;
 
-/// What a stage answers: the number and the place of its refusal, or 0 and 0.
+/// What a stage answers: the number and the place of its refusal, or 0 and 0, since C has no `Result`.
 #[repr(C)]
-#[derive(Clone, Copy)]
+#[derive(Clone, Copy, Default)]
 pub struct Verdict {
     pub number: u32,
     pub place: u32,
@@ -15,7 +15,7 @@ pub struct Verdict {
 
 /// What reading answers: its refusal, or 0 and 0 and the sizes that were read.
 #[repr(C)]
-#[derive(Clone, Copy)]
+#[derive(Clone, Copy, Default)]
 pub struct Reading {
     pub number: u32,
     pub place: u32,
@@ -26,7 +26,7 @@ pub struct Reading {
 
 /// What a round answers: its refusal, or 0 and 0 and its four counts.
 #[repr(C)]
-#[derive(Clone, Copy)]
+#[derive(Clone, Copy, Default)]
 pub struct Outcome {
     pub number: u32,
     pub place: u32,
@@ -36,58 +36,57 @@ pub struct Outcome {
     pub turns: u32,
 }
 
-pub(crate) fn show_verdict(answer: Result<(), Fault>) -> Verdict
-    ensures { result ≡ verdict_of answer }
-{
-    match answer {
-        Ok(()) => Verdict {
-            number: 0,
-            place: 0,
-        },
-        Err((number, place)) => Verdict { number, place },
+impl From<Result<(), Fault>> for Verdict {
+    ghost from_gives = { λ answer shown. shown ≡ verdict_of answer };
+
+    fn from(answer: Result<(), Fault>) -> Verdict {
+        match answer {
+            Ok(()) => Verdict::default(),
+            Err((refusal, place)) => Verdict {
+                number: u32::from(refusal),
+                place,
+            },
+        }
     }
 }
 
-pub(crate) fn show_reading(answer: Result<Sizes, Fault>) -> Reading
-    ensures { result ≡ reading_of answer }
-{
-    match answer {
-        Ok(sizes) => Reading {
-            number: 0,
-            place: 0,
-            parcels: sizes.parcels,
-            entries: sizes.entries,
-            stores: sizes.stores,
-        },
-        Err((number, place)) => Reading {
-            number,
-            place,
-            parcels: 0,
-            entries: 0,
-            stores: 0,
-        },
+impl From<Result<Sizes, Fault>> for Reading {
+    ghost from_gives = { λ answer shown. shown ≡ reading_of answer };
+
+    fn from(answer: Result<Sizes, Fault>) -> Reading {
+        match answer {
+            Ok(sizes) => Reading {
+                parcels: sizes.parcels,
+                entries: sizes.entries,
+                stores: sizes.stores,
+                ..Reading::default()
+            },
+            Err((refusal, place)) => Reading {
+                number: u32::from(refusal),
+                place,
+                ..Reading::default()
+            },
+        }
     }
 }
 
-pub(crate) fn show_outcome(answer: Result<Totals, Fault>) -> Outcome
-    ensures { result ≡ outcome_of answer }
-{
-    match answer {
-        Ok(totals) => Outcome {
-            number: 0,
-            place: 0,
-            pairs: totals.pairs,
-            lone: totals.lone,
-            sent: totals.sent,
-            turns: totals.turns,
-        },
-        Err((number, place)) => Outcome {
-            number,
-            place,
-            pairs: 0,
-            lone: 0,
-            sent: 0,
-            turns: 0,
-        },
+impl From<Result<Totals, Fault>> for Outcome {
+    ghost from_gives = { λ answer shown. shown ≡ outcome_of answer };
+
+    fn from(answer: Result<Totals, Fault>) -> Outcome {
+        match answer {
+            Ok(totals) => Outcome {
+                pairs: totals.pairs,
+                lone: totals.lone,
+                sent: totals.sent,
+                turns: totals.turns,
+                ..Outcome::default()
+            },
+            Err((refusal, place)) => Outcome {
+                number: u32::from(refusal),
+                place,
+                ..Outcome::default()
+            },
+        }
     }
 }

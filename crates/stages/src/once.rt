@@ -2,9 +2,9 @@ ghost use Rattle.ranking.specs.Kinds.{cents_key};
 ghost use Rattle.reading.specs.Outcome.{tables as lent, Read};
 ghost use Rattle.stages.specs.Answers.{verdict_of, reading_of, Answers, listed, Checked};
 
-use crate::answers::{Reading, Verdict, show_reading, show_verdict};
+use crate::answers::{Reading, Verdict};
 use ranking::Cents;
-use reading::read;
+use reading::{TablesMut, read};
 use sheet::{Sheet, Tables, check};
 
 /// Reads a sheet's text into the tables.
@@ -19,7 +19,14 @@ pub extern "C" fn stages_read(
 ) -> Reading
     ensures { Answers reading_of (λ x. Read cents_key 1 text.now (lent starts.old others.old keys.old stores.old editions.old) x (lent starts.new others.new keys.new stores.new editions.new)) result }
 {
-    show_reading(read(text, starts, others, keys, stores, editions))
+    let mut tables = TablesMut {
+        starts,
+        others,
+        keys,
+        stores,
+        editions,
+    };
+    Reading::from(read(text, &mut tables))
 }
 
 /// Checks the tables of a sheet.
@@ -42,5 +49,5 @@ pub extern "C" fn stages_check<'a>(
         editions,
         store_count,
     };
-    show_verdict(check(&mut Sheet::empty(), tables))
+    Verdict::from(check(&mut Sheet::empty(), tables))
 }

@@ -8,7 +8,7 @@ use Rattle.matching.specs.Half.{Pairing}
 use Rattle.sheet.specs.Graph.{Graph, sized, no_parcels}
 use Rattle.sheet.specs.Check.{size}
 use Rattle.pairing.specs.Pairs.{joint, sheet_pairs}
-use Rattle.records.specs.declared.Record.{Record}
+use Rattle.records.specs.declared.record.Record.{Record}
 use Rattle.protocol.specs.World.{World}
 use Rattle.protocol.specs.History.{Opened}
 use Rattle.protocol.proofs.Holds.{facts_fit}

@@ -1,20 +1,23 @@
 use Rattle.std.proofs.Common.{◌∙◌, inl, inr, arith}
+use Rattle.std.proofs.lemmas.Result.{err_from_is_err_and}
 use Rattle.ranking.specs.Kinds.{cents_atleast}
 use Rattle.sheet.specs.Held.{held}
 use Rattle.stages.proofs.Pairings.{done_from, refused_from, not_refused}
 use Rattle.stages.proofs.again.pair_again.Goals as goal
 
-pub loop-made-preserved : goal.loop-made-preserved
-loop-made-preserved c =
+pub loop-preserved : goal.loop-preserved
+loop-preserved c =
     let t = held c.args.sheet.now in
-    inr (omega arith, done_from cents_atleast t c.loop-made.auto.records c.loop-made.auto.worklist c.in_default.ensures)
+    inr (omega arith, done_from cents_atleast t c.loop.auto.records c.loop.auto.worklist c.in_ok-pair_outright.ensures)
 
-pub returns-in-Err : goal.returns-in-Err
-returns-in-Err c =
+pub returns-in_err-pair_outright : goal.returns-in_err-pair_outright
+returns-in_err-pair_outright c =
     let t = held c.args.sheet.now in
-    let why = c.in-Err.ensures in
-    let refused = refused_from cents_atleast t c.loop-made.auto.records c.loop-made.auto.worklist why.0 in
-    elim c.loop-made.invariant [
-      | inl first ↦ (omega (arith, c.loop-made-test.true), refused, why.1 ∙ first.1, why.2 ∙ first.2)
+    let p = err_from_is_err_and c.from_residual.result c.from_residual.ensures.1 in
+    let why = c.in_err-pair_outright.ensures in
+    let refused = refused_from cents_atleast t c.loop.auto.records c.loop.auto.worklist why.0 in
+    rw (p.1, p.2)
+    (elim c.loop.invariant [
+      | inl first ↦ (omega (arith, c.loop-test.true), refused, why.1 ∙ first.1, why.2 ∙ first.2)
       | inr later ↦ absurd (not_refused cents_atleast t later.1 refused)
-    ]
+    ])
