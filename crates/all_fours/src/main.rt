@@ -2,12 +2,12 @@
 //! says what came of it and on how many sheets the three were apart.
 #![tactic(auto)]
 
-use lines::BLANK;
-use lines::pigeonholes::Pigeonholes;
-use lines::queue::Queue;
+use faults::Fault;
+use line::Line;
+use lines::{BLANK, Pigeonholes, Queue};
 use outright::pair_outright;
 use ranking::Cents;
-use records::{IDLE, Record};
+use records::{Ledger, Record, Totals};
 use results::worth;
 use rounds::settle;
 use sheet::{Sheet, Tables, check};
@@ -17,16 +17,14 @@ const SHEETS: u32 = 4_096;
 
 const MOST_ENTRIES: usize = 12;
 
+// The pairs of a sheet; a sheet's number has a digit for each, in this order.
+static JOINS: [(u32, u32); 6] = [(0, 1), (0, 2), (0, 3), (1, 2), (1, 3), (2, 3)];
+
 static STORES: [u32; 4] = [0, 1, 2, 3];
 
 static EDITIONS: [u16; 4] = [1, 1, 1, 1];
 
-const BLANK_RECORD: Record = Record {
-    state: IDLE,
-    choice: 0,
-};
-
-// The tables of one sheet that differ from sheet to sheet.
+// The tables of one sheet that differ from sheet to sheet, each as the library takes it.
 #[derive(Drop)]
 struct Rows {
     starts: Vec<u32>,
@@ -34,8 +32,8 @@ struct Rows {
     keys: Vec<Cents>,
 }
 
-// What came of a sheet.
-#[derive(Clone, Copy)]
+// What came of a sheet, or of all.
+#[derive(Clone, Copy, Default)]
 struct Outcome {
     pairs: u32,
     lone: u32,
@@ -43,85 +41,76 @@ struct Outcome {
     apart: u32,
 }
 
+impl Outcome {
+    fn add(&mut self, one: Outcome) {
+        self.pairs = self.pairs.saturating_add(one.pairs);
+        self.lone = self.lone.saturating_add(one.lone);
+        self.cents = self.cents.saturating_add(one.cents);
+        self.apart = self.apart.saturating_add(one.apart);
+    }
+}
+
 // The key of a pair in the sheet of this number, whose six digits to the base 4 are the pairs' keys, or 3 for none.
 fn key_of(number: u32, u: u32, v: u32) -> Option<u32> {
-    let scale: u32 = match (u.min(v), u.max(v)) {
-        (0, 1) => 1,
-        (0, 2) => 4,
-        (0, 3) => 16,
-        (1, 2) => 64,
-        (1, 3) => 256,
-        _ => 1_024,
-    };
-    let digit = number.checked_div(scale).unwrap_or(0) % 4;
-    if digit < 3 { Some(digit) } else { None }
+    let place = JOINS.iter().position(|join| *join == (u.min(v), u.max(v)))?;
+    let digit = (number >> (2 * place)) % 4;
+    (digit < 3).then_some(digit)
 }
 
 // The rows of the sheet of this number.
 fn make_rows(heap: Global, number: u32) -> Result<Rows, AllocError> {
-    let mut starts = Vec::new(heap);
-    let mut others = Vec::new(heap);
-    let mut keys = Vec::new(heap);
-    let mut count: u32 = 0;
+    let mut rows = Rows {
+        starts: vec![in heap; 0]?,
+        others: Vec::new(heap),
+        keys: Vec::new(heap),
+    };
     for u in 0..4 {
-        starts.push(count)?;
         for v in 0..4 {
-            if u == v {
-                continue;
-            }
             if let Some(cents) = key_of(number, u, v) {
-                others.push(v)?;
-                keys.push(Cents(cents))?;
-                count = count.saturating_add(1);
+                rows.others.push(v)?;
+                rows.keys.push(Cents(cents))?;
             }
         }
+        rows.starts.push(rows.others.len() as u32)?;
     }
-    starts.push(count)?;
-    Ok(Rows {
-        starts,
-        others,
-        keys,
-    })
+    Ok(rows)
 }
 
-fn same(a: &[Record; 4], b: &[Record; 4]) -> bool {
-    a[0] == b[0] && a[1] == b[1] && a[2] == b[2] && a[3] == b[3]
-}
-
-// Pairs a sheet in the three ways; none where one of them is refused.
-fn pair(sheet: &Sheet<Cents>) -> Option<Outcome> {
-    let mut by_queue = [BLANK_RECORD; 4];
-    let mut by_holes = [BLANK_RECORD; 4];
-    let mut outright = [BLANK_RECORD; 4];
+// The records and the totals of rounds over this line.
+fn settle_over<L: Line>(
+    sheet: &Sheet<Cents>,
+    line: &mut L,
+) -> Result<([Record; 4], Totals), Fault> {
+    let mut records = [Record::IDLE; 4];
     let mut bits = [0; MOST_ENTRIES];
     let marks = &mut bits[..MOST_ENTRIES.min(sheet.tables().others.len())];
+    let totals = settle(sheet, &mut records, marks, line)?;
+    Ok((records, totals))
+}
+
+// Pairs a sheet in the three ways.
+fn pair(sheet: &Sheet<Cents>) -> Result<Outcome, Fault> {
     let mut slots = [BLANK; MOST_ENTRIES];
-    let mut queue = Queue::new(&mut slots, 12);
-    let Ok(totals) = settle(sheet, &mut by_queue, marks, &mut queue) else {
-        return None;
-    };
-    let mut more = [BLANK; MOST_ENTRIES];
-    let mut holes = Pigeonholes::new(&mut more, 12);
-    if settle(sheet, &mut by_holes, marks, &mut holes).is_err() {
-        return None;
-    }
-    if pair_outright(sheet, &mut outright, &mut [0; 4]).is_err() {
-        return None;
-    }
-    let Ok(cents) = worth(sheet, &by_queue) else {
-        return None;
-    };
-    let alike = same(&by_queue, &by_holes) && same(&by_queue, &outright);
-    Some(Outcome {
+    let mut queue = Queue::new(&mut slots, MOST_ENTRIES as u32);
+    let (by_queue, totals) = settle_over(sheet, &mut queue)?;
+    let mut holes = [BLANK; MOST_ENTRIES];
+    let mut pigeonholes = Pigeonholes::new(&mut holes, MOST_ENTRIES as u32);
+    let (by_holes, _) = settle_over(sheet, &mut pigeonholes)?;
+    let mut outright = [Record::IDLE; 4];
+    pair_outright(sheet, &mut outright, &mut [0; 4])?;
+    Ok(Outcome {
         pairs: totals.pairs,
         lone: totals.lone,
-        cents,
-        apart: if alike { 0 } else { 1 },
+        cents: worth(Ledger {
+            sheet,
+            records: &by_queue,
+        })?,
+        apart: u32::from(by_queue != by_holes || by_queue != outright),
     })
 }
 
 // Checks and pairs the sheet of this number.
-fn try_sheet(heap: Global, number: u32) -> Result<Option<Outcome>, AllocError> {
+fn try_sheet(heap: Global, number: u32) -> Result<Result<Outcome, Fault>, AllocError> {
     let rows = make_rows(heap, number)?;
     let tables = Tables {
         starts: rows.starts.as_slice(),
@@ -132,29 +121,17 @@ fn try_sheet(heap: Global, number: u32) -> Result<Option<Outcome>, AllocError> {
         store_count: 4,
     };
     let mut sheet = Sheet::empty();
-    if check(&mut sheet, tables).is_err() {
-        return Ok(None);
-    }
-    Ok(pair(&sheet))
+    let checked = check(&mut sheet, tables);
+    Ok(checked.and_then(|()| pair(&sheet)))
 }
 
 fn main(rt: HostRuntime) -> anyhow::Result<()> {
     let mut refused: u32 = 0;
-    let mut all = Outcome {
-        pairs: 0,
-        lone: 0,
-        cents: 0,
-        apart: 0,
-    };
+    let mut all = Outcome::default();
     for number in 0..SHEETS {
         match try_sheet(rt.alloc(), number)? {
-            None => refused = refused.saturating_add(1),
-            Some(one) => {
-                all.pairs = all.pairs.saturating_add(one.pairs);
-                all.lone = all.lone.saturating_add(one.lone);
-                all.cents = all.cents.saturating_add(one.cents);
-                all.apart = all.apart.saturating_add(one.apart);
-            }
+            Ok(one) => all.add(one),
+            Err(_) => refused = refused.saturating_add(1),
         }
     }
     let Outcome {

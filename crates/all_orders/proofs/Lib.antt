@@ -1,1 +1,1 @@
-mod Tops
+mod Shorter

@@ -5,6 +5,7 @@ ghost use Rattle.all_orders.specs.Counted.{CountsRight};
 use crate::orders::Course;
 use crate::small::PARCELS;
 use records::Record;
+use std::num::Saturating;
 
 /// What the definition says of a sheet.
 #[derive(Clone, Copy)]
@@ -27,27 +28,27 @@ pub struct Settled {
 }
 
 /// What was counted.
-#[derive(Clone, Copy)]
+#[derive(Clone, Copy, Default)]
 pub struct Counts {
-    pub sheets: u32,
-    pub pairs: u32,
-    pub lone: u32,
-    pub cents: u64,
-    pub outright: u32,
-    pub rounds: u32,
+    pub sheets: Saturating<u32>,
+    pub pairs: Saturating<u32>,
+    pub lone: Saturating<u32>,
+    pub cents: Saturating<u64>,
+    pub outright: Saturating<u32>,
+    pub rounds: Saturating<u32>,
     pub fewest: u32,
     pub most: u32,
     /// Closes and starts that were refused, as they had to be.
-    pub closes: u32,
-    pub starts: u32,
+    pub closes: Saturating<u32>,
+    pub starts: Saturating<u32>,
     /// Sheets, outright pairings and rounds that were not accepted to the end.
-    pub refused: u32,
+    pub refused: Saturating<u32>,
     /// Pairings whose records are not the definition's.
-    pub apart: u32,
+    pub apart: Saturating<u32>,
     /// Rounds whose counts or cents are not the definition's, or that break the rule of turns and notes.
-    pub miscounted: u32,
+    pub miscounted: Saturating<u32>,
     /// Rounds that fetch less than half of some pairing.
-    pub outdone: u32,
+    pub outdone: Saturating<u32>,
 }
 
 // Whether the counts and the cents are right: each pair and lone parcel once, a turn for each parcel and each note, and
@@ -74,63 +75,43 @@ impl Counts {
     /// Nothing counted yet.
     pub fn none() -> Counts {
         Counts {
-            sheets: 0,
-            pairs: 0,
-            lone: 0,
-            cents: 0,
-            outright: 0,
-            rounds: 0,
             fewest: u32::MAX,
-            most: 0,
-            closes: 0,
-            starts: 0,
-            refused: 0,
-            apart: 0,
-            miscounted: 0,
-            outdone: 0,
+            ..Counts::default()
         }
     }
 
     /// Counts a sheet.
     pub fn add_sheet(&mut self, expected: &Expected) {
-        self.sheets = self.sheets.saturating_add(1);
-        self.pairs = self.pairs.saturating_add(expected.pairs);
-        self.lone = self.lone.saturating_add(expected.lone);
-        self.cents = self.cents.saturating_add(expected.cents);
+        self.sheets += 1;
+        self.pairs += expected.pairs;
+        self.lone += expected.lone;
+        self.cents += expected.cents;
     }
 
     /// Counts what was refused.
     pub fn add_refused(&mut self) {
-        self.refused = self.refused.saturating_add(1);
+        self.refused += 1;
     }
 
     /// Counts an outright pairing.
     pub fn add_outright(&mut self, expected: &Expected, records: &[Record; 4]) {
-        self.outright = self.outright.saturating_add(1);
-        if *records != expected.records {
-            self.apart = self.apart.saturating_add(1);
-        }
+        self.outright += 1;
+        self.apart += u32::from(*records != expected.records);
     }
 
     /// Counts a round.
     pub fn add_round(&mut self, expected: &Expected, settled: &Settled)
-        ensures right { self.new.miscounted ≡ 0 → CountsRight expected.now settled.now }
-        ensures half { self.new.outdone ≡ 0 → expected.now.most ≤ 2 * settled.now.cents }
+        ensures right { self.new.miscounted.0 ≡ 0 → CountsRight expected.now settled.now }
+        ensures half { self.new.outdone.0 ≡ 0 → expected.now.most ≤ 2 * settled.now.cents }
     {
         let course = settled.course;
-        self.rounds = self.rounds.saturating_add(1);
+        self.rounds += 1;
         self.fewest = self.fewest.min(course.totals.sent);
         self.most = self.most.max(course.totals.sent);
-        self.closes = self.closes.saturating_add(course.closes);
-        self.starts = self.starts.saturating_add(course.starts);
-        if settled.records != expected.records {
-            self.apart = self.apart.saturating_add(1);
-        }
-        if !counts_right(expected, settled) {
-            self.miscounted = self.miscounted.saturating_add(1);
-        }
-        if !fetches_half(expected, settled) {
-            self.outdone = self.outdone.saturating_add(1);
-        }
+        self.closes += course.closes;
+        self.starts += course.starts;
+        self.apart += u32::from(settled.records != expected.records);
+        self.miscounted += u32::from(!counts_right(expected, settled));
+        self.outdone += u32::from(!fetches_half(expected, settled));
     }
 }

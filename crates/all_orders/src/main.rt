@@ -17,25 +17,25 @@ use trial::{LAYOUT_COUNT, ORDER_COUNT, try_sheet};
 // What was counted, by name.
 fn facts(counts: &Counts) -> [(&'static str, u64); 16] {
     [
-        ("sheets", u64::from(counts.sheets)),
+        ("sheets", u64::from(counts.sheets.0)),
         ("layouts of stores", LAYOUT_COUNT as u64),
         ("orders of calls", ORDER_COUNT as u64),
-        ("outright pairings", u64::from(counts.outright)),
-        ("rounds", u64::from(counts.rounds)),
-        ("pairs", u64::from(counts.pairs)),
-        ("lone parcels", u64::from(counts.lone)),
-        ("cents", counts.cents),
+        ("outright pairings", u64::from(counts.outright.0)),
+        ("rounds", u64::from(counts.rounds.0)),
+        ("pairs", u64::from(counts.pairs.0)),
+        ("lone parcels", u64::from(counts.lone.0)),
+        ("cents", counts.cents.0),
         ("fewest notes of a round", u64::from(counts.fewest)),
         ("most notes of a round", u64::from(counts.most)),
-        ("closes refused before the end", u64::from(counts.closes)),
+        ("closes refused before the end", u64::from(counts.closes.0)),
         (
             "starts refused of started parcels",
-            u64::from(counts.starts),
+            u64::from(counts.starts.0),
         ),
-        ("refused", u64::from(counts.refused)),
-        ("apart", u64::from(counts.apart)),
-        ("miscounted", u64::from(counts.miscounted)),
-        ("worth less than half", u64::from(counts.outdone)),
+        ("refused", u64::from(counts.refused.0)),
+        ("apart", u64::from(counts.apart.0)),
+        ("miscounted", u64::from(counts.miscounted.0)),
+        ("worth less than half", u64::from(counts.outdone.0)),
     ]
 }
 

@@ -1,9 +1,9 @@
 //! Orders of calls by which a round is taken from its opening to its close.
 use crate::small::{MOST_ENTRIES, PARCELS};
-use faults::{STARTED, UNSETTLED};
+use faults::{Fault, Refusal};
 use line::Line;
 use ranking::Cents;
-use records::{IDLE, Record, Totals};
+use records::{Record, State, Totals};
 use round::{Round, close, fetch, start};
 use rounds::{Turn, run};
 use sheet::Sheet;
@@ -11,7 +11,7 @@ use sheet::Sheet;
 // No round of these sheets takes more turns: one for each parcel, and one for each note.
 const MOST_TURNS: u32 = PARCELS + MOST_ENTRIES as u32;
 
-/// An order of calls.
+/// An order of calls: an enum, so that the orders can stand in a static table.
 #[derive(Clone, Copy)]
 pub enum Order {
     /// A run until the round is still.
@@ -37,70 +37,45 @@ pub struct Course {
 
 // The highest of so many stores that a note waits for.
 fn highest_store<L: Line>(stores: u32, line: &L) -> Option<u32> {
-    let mut highest = None;
-    for s in 0..stores {
-        if line.next(s).is_some() {
-            highest = Some(s);
-        }
-    }
-    highest
+    (0..stores).rev().find(|s| line.next(*s).is_some())
 }
 
 // The highest idle parcel.
 fn highest_idle(records: &[Record]) -> Option<u32> {
-    for u in (0..PARCELS).rev() {
-        match records.get(u as usize) {
-            Some(record) if record.state == IDLE => return Some(u),
-            _ => {}
-        }
-    }
-    None
+    (0..PARCELS).rev().find(|u| {
+        let record = records.get(*u as usize);
+        record.is_some_and(|record| record.is(State::Idle))
+    })
 }
 
-// The turn that comes next: a start of the highest idle parcel, or a fetch for the highest store that a note waits for,
-// whichever is to go first.
-fn next_turn<L: Line>(
-    starts_first: bool,
-    sheet: &Sheet<Cents>,
-    records: &[Record],
-    line: &L,
-) -> Option<Turn> {
-    let store = highest_store(sheet.tables().store_count, line);
-    if starts_first || store.is_none() {
-        if let Some(u) = highest_idle(records) {
-            return Some(Turn::StartOf(u));
-        }
-    }
-    match store {
-        Some(s) => Some(Turn::FetchFor(s)),
-        None => None,
-    }
-}
-
-// Makes turn after turn until there is none left. No answer where one is refused.
-fn take_turns<L: Line>(
-    starts_first: bool,
+// Makes turn after turn until there is none left, or one is refused. Picks between a start of the highest idle parcel and
+// a fetch for the highest store that a note waits for.
+fn take_turns<L: Line, P: Fn(Option<Turn>, Option<Turn>) -> Option<Turn>>(
+    pick: P,
     round: &mut Round,
     sheet: &Sheet<Cents>,
     records: &mut [Record],
     marks: &mut [u8],
     line: &mut L,
-) -> Option<()> {
+) -> Result<(), Fault>
+    requires { P.IsAlwaysCallable pick }
+{
+    let stores = sheet.tables().store_count;
     for _ in 0..MOST_TURNS {
-        match next_turn(starts_first, sheet, records, line) {
-            Some(Turn::StartOf(u)) => start(round, sheet, records, marks, line, u).ok()?,
-            Some(Turn::FetchFor(s)) => fetch(round, sheet, records, marks, line, s).ok()?,
-            None => return Some(()),
+        let to_start = highest_idle(records).map(Turn::StartOf);
+        let to_fetch = highest_store(stores, line).map(Turn::FetchFor);
+        match pick(to_start, to_fetch) {
+            Some(Turn::StartOf(u)) => start(round, sheet, records, marks, line, u)?,
+            Some(Turn::FetchFor(s)) => fetch(round, sheet, records, marks, line, s)?,
+            None => break,
         }
     }
-    Some(())
+    Ok(())
 }
 
 fn is_started(records: &[Record], u: u32) -> bool {
-    match records.get(u as usize) {
-        Some(record) => record.state != IDLE,
-        None => false,
-    }
+    let record = records.get(u as usize);
+    record.is_some_and(|record| !record.is(State::Idle))
 }
 
 // Starts every started parcel again, and answers how many there were. Each start is to be refused as such.
@@ -114,7 +89,7 @@ fn start_again<L: Line>(
     let mut refused: u32 = 0;
     for u in 0..PARCELS {
         if is_started(records, u) {
-            if start(round, sheet, records, marks, line, u) != Err((STARTED, u)) {
+            if start(round, sheet, records, marks, line, u) != Err((Refusal::Started, u)) {
                 return None;
             }
             refused = refused.saturating_add(1);
@@ -142,7 +117,7 @@ fn with_refusals<L: Line>(
                     starts,
                 });
             }
-            Err((open, (UNSETTLED, _))) => open,
+            Err((open, (Refusal::Unsettled, _))) => open,
             Err(_) => return None,
         };
         closes = closes.saturating_add(1);
@@ -153,7 +128,7 @@ fn with_refusals<L: Line>(
 }
 
 /// Takes an open round to its close in this order. No answer where a call is refused that has to be accepted, or the
-/// other way round.
+/// other way round: no caller asks which, since all such rounds are counted alike.
 pub fn play<L: Line>(
     order: Order,
     mut round: Round,
@@ -166,8 +141,14 @@ pub fn play<L: Line>(
         Order::InOneRun => {
             let _ = run(&mut round, sheet, records, marks, line, u32::MAX);
         }
-        Order::StartsFirst => take_turns(true, &mut round, sheet, records, marks, line)?,
-        Order::FetchesFirst => take_turns(false, &mut round, sheet, records, marks, line)?,
+        Order::StartsFirst => {
+            let pick = |to_start: Option<Turn>, to_fetch| to_start.or(to_fetch);
+            take_turns(pick, &mut round, sheet, records, marks, line).ok()?;
+        }
+        Order::FetchesFirst => {
+            let pick = |to_start, to_fetch: Option<Turn>| to_fetch.or(to_start);
+            take_turns(pick, &mut round, sheet, records, marks, line).ok()?;
+        }
         Order::WithRefusals => return with_refusals(round, sheet, records, marks, line),
     }
     let totals = close(round, sheet, records, marks, line).ok()?;

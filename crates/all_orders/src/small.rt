@@ -1,6 +1,6 @@
 //! The sheets of four parcels with keys 0 to 2, and their tables.
-ghost use Rattle.std.specs.Prelude.{◌≡◌, true};
-ghost use Rattle.all_orders.specs.Pairs.{partner, touching, standing_above};
+ghost use Rattle.std.specs.Prelude.{◌≡◌, min};
+ghost use Rattle.all_orders.specs.Pairs.{partner, touching};
 
 use ranking::Cents;
 use std::alloc::{AllocError, Global};
@@ -14,12 +14,13 @@ pub const MOST_ENTRIES: usize = 12;
 
 static JOINS: [(u32, u32); 6] = [(0, 1), (0, 2), (0, 3), (1, 2), (1, 3), (2, 3)];
 
-/// Two parcels that may be joined, the lower number first, and what their lot would fetch.
-#[derive(Clone, Copy)]
+/// Two parcels that may be joined, and what their lot would fetch. Pairs are ordered by that key, then by the parcel of
+/// the higher number, then by the other.
+#[derive(Clone, Copy, PartialEq, Eq, PartialOrd, Ord)]
 pub struct Pair {
-    pub low: u32,
-    pub high: u32,
     pub cents: u32,
+    pub high: u32,
+    pub low: u32,
 }
 
 impl Pair {
@@ -45,56 +46,50 @@ impl Pair {
             || self.high == with.low
             || self.high == with.high
     }
-
-    /// Whether it stands above another pair: by its key, then by the higher parcel, then by the lower.
-    pub fn stands_above(self, below: Pair) -> bool
-        ensures { result ≡ standing_above self below }
-    {
-        if self.cents != below.cents {
-            return self.cents > below.cents;
-        }
-        if self.high != below.high {
-            return self.high > below.high;
-        }
-        self.low > below.low
-    }
 }
 
 /// The pairs of the sheet of this number: its digits to the base 4 are their cents, or 3 where a pair is absent.
 pub fn pairs_of(heap: Global, number: u32) -> Result<Vec<Pair>, AllocError> {
     let mut pairs = Vec::new(heap);
     let mut digits = number;
-    for join in &JOINS {
+    for (low, high) in JOINS {
         let cents = digits % 4;
         digits /= 4;
         if cents < 3 {
-            let (low, high) = *join;
-            pairs.push(Pair { low, high, cents })?;
+            pairs.push(Pair { cents, high, low })?;
         }
     }
     Ok(pairs)
 }
 
-/// The rows of a sheet.
+/// A count in 32 bits; one that needs more is given as the most that they hold.
+pub fn capped(count: usize) -> u32
+    ensures { result ≡ min count u32.MAX }
+{
+    u32::try_from(count).unwrap_or(u32::MAX)
+}
+
+/// The rows of a sheet: three of the tables that the library takes, each as it takes it.
 #[derive(Drop)]
 pub struct Rows {
     pub starts: Vec<u32>,
     pub others: Vec<u32>,
     pub keys: Vec<Cents>,
-    pub entries: u32,
 }
 
-// Adds the row of parcel `u`. The pairs stand so that its entries rise.
-fn add_row(rows: &mut Rows, pairs: &[Pair], u: u32) -> Result<(), AllocError> {
-    for pair in pairs {
-        if let Some(v) = pair.other(u) {
-            rows.others.push(v)?;
-            rows.keys.push(Cents(pair.cents))?;
-            rows.entries = rows.entries.saturating_add(1);
+impl Rows {
+    // Adds the row of parcel `u`. The pairs stand so that its entries rise.
+    fn add_row(&mut self, pairs: &[Pair], u: u32) -> Result<(), AllocError> {
+        for pair in pairs {
+            if let Some(v) = pair.other(u) {
+                self.others.push(v)?;
+                self.keys.push(Cents(pair.cents))?;
+            }
         }
+        let end = capped(self.others.len());
+        self.starts.push(end)?;
+        Ok(())
     }
-    rows.starts.push(rows.entries)?;
-    Ok(())
 }
 
 /// The rows of the sheet with these pairs.
@@ -103,10 +98,9 @@ pub fn rows_of(heap: Global, pairs: &[Pair]) -> Result<Rows, AllocError> {
         starts: vec![in heap; 0]?,
         others: Vec::new(heap),
         keys: Vec::new(heap),
-        entries: 0,
     };
     for u in 0..PARCELS {
-        add_row(&mut rows, pairs, u)?;
+        rows.add_row(pairs, u)?;
     }
     Ok(rows)
 }

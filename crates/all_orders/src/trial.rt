@@ -2,14 +2,12 @@
 use crate::counts::{Counts, Expected, Settled};
 use crate::definition::{cents_of, greedy, most_cents, records_of};
 use crate::orders::{Order, play};
-use crate::small::{MOST_ENTRIES, PARCELS, Rows, pairs_of, rows_of};
+use crate::small::{MOST_ENTRIES, PARCELS, Rows, capped, pairs_of, rows_of};
 use line::Line;
-use lines::BLANK;
-use lines::pigeonholes::Pigeonholes;
-use lines::queue::Queue;
+use lines::{BLANK, Pigeonholes, Queue};
 use outright::pair_outright;
 use ranking::Cents;
-use records::{IDLE_RECORD, Record};
+use records::{Ledger, Record};
 use results::worth;
 use round::open;
 use sheet::{Sheet, Tables, check};
@@ -57,12 +55,16 @@ static EDITIONS: [u16; 4] = [1, 1, 1, 1];
 
 // A round over this line, in this order of calls. No answer where a call is not answered as it has to be.
 fn try_round<L: Line>(sheet: &Sheet<Cents>, order: Order, line: &mut L) -> Option<Settled> {
-    let mut records = [IDLE_RECORD; 4];
+    let mut records = [Record::IDLE; 4];
     let mut bits = [0; MOST_ENTRIES];
     let marks = &mut bits[..MOST_ENTRIES.min(sheet.tables().others.len())];
     let round = open(sheet, &mut records, marks, line).ok()?;
     let course = play(order, round, sheet, &mut records, marks, line)?;
-    let cents = worth(sheet, &records).ok()?;
+    let ledger = Ledger {
+        sheet,
+        records: &records,
+    };
+    let cents = worth(ledger).ok()?;
     Some(Settled {
         records,
         cents,
@@ -70,48 +72,65 @@ fn try_round<L: Line>(sheet: &Sheet<Cents>, order: Order, line: &mut L) -> Optio
     })
 }
 
-// Rounds over both kinds of line, in this order of calls.
-fn try_order(counts: &mut Counts, expected: &Expected, sheet: &Sheet<Cents>, order: Order) {
-    let mut slots = [BLANK; MOST_ENTRIES];
-    let mut queue = Queue::new(&mut slots, MOST_ENTRIES as u32);
-    match try_round(sheet, order, &mut queue) {
-        Some(settled) => counts.add_round(expected, &settled),
-        None => counts.add_refused(),
-    }
-    let mut holes = [BLANK; MOST_ENTRIES];
-    let mut pigeonholes = Pigeonholes::new(&mut holes, MOST_ENTRIES as u32);
-    match try_round(sheet, order, &mut pigeonholes) {
-        Some(settled) => counts.add_round(expected, &settled),
-        None => counts.add_refused(),
-    }
+// What is expected of a sheet, and where it is counted what came of it.
+#[derive(Drop)]
+struct Trial<'a> {
+    expected: &'a Expected,
+    counts: &'a mut Counts,
 }
 
-// The sheet outright, and in rounds in every order of calls.
-fn try_pairing(counts: &mut Counts, expected: &Expected, sheet: &Sheet<Cents>) {
-    let mut records = [IDLE_RECORD; 4];
-    match pair_outright(sheet, &mut records, &mut [0; 4]) {
-        Ok(()) => counts.add_outright(expected, &records),
-        Err(_) => counts.add_refused(),
+impl Trial<'_> {
+    // A round over this line, in this order of calls.
+    fn try_line<L: Line>(&mut self, sheet: &Sheet<Cents>, order: Order, line: &mut L) {
+        match try_round(sheet, order, line) {
+            Some(settled) => self.counts.add_round(self.expected, &settled),
+            None => self.counts.add_refused(),
+        }
     }
-    for order in ORDERS {
-        try_order(counts, expected, sheet, order);
-    }
-}
 
-// The sheet of these rows in this layout of stores.
-fn try_layout<'a>(counts: &mut Counts, expected: &Expected, rows: &'a Rows, layout: &'a Layout) {
-    let tables = Tables {
-        starts: rows.starts.as_slice(),
-        others: rows.others.as_slice(),
-        keys: rows.keys.as_slice(),
-        stores: &layout.stores,
-        editions: &EDITIONS,
-        store_count: layout.count,
-    };
-    let mut sheet = Sheet::empty();
-    match check(&mut sheet, tables) {
-        Ok(()) => try_pairing(counts, expected, &sheet),
-        Err(_) => counts.add_refused(),
+    // Rounds over both kinds of line, in this order of calls.
+    fn try_order(&mut self, sheet: &Sheet<Cents>, order: Order) {
+        let mut slots = [BLANK; MOST_ENTRIES];
+        self.try_line(
+            sheet,
+            order,
+            &mut Queue::new(&mut slots, MOST_ENTRIES as u32),
+        );
+        let mut holes = [BLANK; MOST_ENTRIES];
+        self.try_line(
+            sheet,
+            order,
+            &mut Pigeonholes::new(&mut holes, MOST_ENTRIES as u32),
+        );
+    }
+
+    // The sheet outright, and in rounds in every order of calls.
+    fn try_pairing(&mut self, sheet: &Sheet<Cents>) {
+        let mut records = [Record::IDLE; 4];
+        match pair_outright(sheet, &mut records, &mut [0; 4]) {
+            Ok(()) => self.counts.add_outright(self.expected, &records),
+            Err(_) => self.counts.add_refused(),
+        }
+        for order in ORDERS {
+            self.try_order(sheet, order);
+        }
+    }
+
+    // The sheet of these rows in this layout of stores.
+    fn try_layout<'a>(&mut self, rows: &'a Rows, layout: &'a Layout) {
+        let tables = Tables {
+            starts: rows.starts.as_slice(),
+            others: rows.others.as_slice(),
+            keys: rows.keys.as_slice(),
+            stores: &layout.stores,
+            editions: &EDITIONS,
+            store_count: layout.count,
+        };
+        let mut sheet = Sheet::empty();
+        match check(&mut sheet, tables) {
+            Ok(()) => self.try_pairing(&sheet),
+            Err(_) => self.counts.add_refused(),
+        }
     }
 }
 
@@ -120,18 +139,22 @@ pub fn try_sheet(heap: Global, counts: &mut Counts, number: u32) -> Result<(), A
     let pairs = pairs_of(heap, number)?;
     let taken = greedy(heap, pairs.as_slice())?;
     let rows = rows_of(heap, pairs.as_slice())?;
-    let paired = u32::try_from(taken.len()).unwrap_or(u32::MAX);
+    let paired = capped(taken.len());
     let expected = Expected {
         records: records_of(pairs.as_slice(), taken.as_slice()),
-        entries: rows.entries,
+        entries: capped(rows.others.len()),
         pairs: paired,
         lone: PARCELS.saturating_sub(paired.saturating_mul(2)),
         cents: cents_of(taken.as_slice()),
         most: most_cents(pairs.as_slice()),
     };
     counts.add_sheet(&expected);
+    let mut trial = Trial {
+        expected: &expected,
+        counts,
+    };
     for layout in &LAYOUTS {
-        try_layout(counts, &expected, &rows, layout);
+        trial.try_layout(&rows, layout);
     }
     Ok(())
 }
