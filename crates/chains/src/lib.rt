@@ -1,5 +1,5 @@
 //! Chains of notes, one for each store, in one pool of places: the tables, what they mean, and the theory of the moves
-//! between chains. The calls that move notes stand in the crate above.
+//! between chains. The calls that move notes stand in the crate `lines`.
 #![tactic(auto)]
 
 ghost use Rattle.std.specs.Prelude.{◌≡◌, length};

@@ -58,6 +58,15 @@ impl From<Refusal> for u32 {
     }
 }
 
+/// A fault as the two numbers that a user is told. A function, since a pair can have no `From` of ours.
+pub fn numbered(fault: Fault) -> (u32, u32)
+    ensures number { result.0 ≡ number fault.0 }
+    ensures place { result.1 ≡ fault.1 }
+{
+    let (refusal, place) = fault;
+    (u32::from(refusal), place)
+}
+
 impl fmt::Display for Refusal {
     fn fmt<W: fmt::Write>(&self, f: &mut fmt::Formatter<W>) -> fmt::Result {
         write!(f, "{}", u32::from(*self))

@@ -58,7 +58,7 @@ pub struct Note {
     pub addressee: u32,
     /// The addressee's store.
     pub store: u32,
-    /// The number of its `Kind`. C programs fill notes too, and a line carries any number.
+    /// The number of its `Kind`. Whoever puts a note fills it, and a line carries any number.
     pub kind: u8,
 }
 

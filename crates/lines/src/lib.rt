@@ -24,7 +24,7 @@ pub type Queue<'a> = StoreLine<'a, OldestFirst>;
 /// The line that hands a store its newest note.
 pub type Pigeonholes<'a> = StoreLine<'a, NewestFirst>;
 
-/// Where a chain ends: no place has this number.
+/// Where a chain ends: no place has this number. A link is no `Option`, since a slot has the layout that C gives it.
 const END: u32 = u32::MAX;
 
 /// What a free place holds.

@@ -68,6 +68,7 @@ pub(crate) fn carry(pool: &mut Pool, from: u32, note: Note, end: End)
     ensures sizes { SameSizes pool.old pool.new }
 {
     let place = pop(pool, from);
+    // an end is data that the laws of chains speak of, and not a step that a caller hands in
     match end {
         End::Front => push_front(pool, place, note),
         End::Back => push_back(pool, place, note),

@@ -6,7 +6,7 @@ use crate::{BLANK, Pigeonholes, Queue};
 use faults::Fault;
 use line::{Kind, Line, Note};
 
-// the order of each kind, proved
+// the order of each kind, proved with its end by name
 
 fn put_in_queue(queue: &mut Queue, note: Note) -> Result<(), Fault>
     ensures { PutAt Back result note queue.old.pool queue.new.pool }

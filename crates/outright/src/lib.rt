@@ -48,6 +48,7 @@ pub fn pair_outright<K: Ranking>(
 #[cfg(test)]
 mod tests {
     use super::*;
+    use faults::numbered;
     use ranking::{Cents, Staged};
     use records::State;
     use sheet::Tables;
@@ -129,7 +130,7 @@ mod tests {
         let sheet: Sheet<Cents> = Sheet::empty();
         let mut records = [LEFT; 1];
         let refused = pair_outright(&sheet, &mut records, &mut []);
-        assert!(rt; refused.map_err(|fault| (u32::from(fault.0), fault.1)) == Err((12, 0)));
+        assert!(rt; refused.map_err(numbered) == Err((12, 0)));
         assert!(rt; records[0] == LEFT);
         pair_outright(&sheet, &mut [], &mut [])?;
         Ok(())

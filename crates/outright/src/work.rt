@@ -39,8 +39,9 @@ fn is_paired(records: &[Record], u: usize) -> bool
         .is_some_and(|record| record.is(State::Paired))
 }
 
-// The lent memory that a pairing works in: the records, and a worklist that begins with the paired parcels. That they
-// are the listed ones is false between the writes of one pair, and so the methods say it and no ghost field does.
+// The lent memory that a pairing works in: the records, and a worklist that begins with the paired parcels, a slice and a
+// count since it is lent. That they are the listed ones is false between the writes of one pair, and so the methods say
+// it and no ghost field does; and which slices are lent is no fact about one value.
 #[derive(Drop)]
 pub(crate) struct Work<'a> {
     pub(crate) records: &'a mut [Record],

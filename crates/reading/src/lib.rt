@@ -15,11 +15,15 @@ mod checking;
 mod filling;
 mod rows;
 
-/// The most parcels, entries and stores that a sheet has; it has at least one store.
+// The crate `sheet` has these limits too; neither needs the other.
+
+/// The most parcels of a sheet.
 const MOST_PARCELS: u32 = 1_024;
 
+/// The most entries.
 const MOST_ENTRIES: u32 = 16_384;
 
+/// The most stores; there is at least one.
 const MOST_STORES: u32 = 64;
 
 /// How many parcels, entries and stores a sheet has.
@@ -40,7 +44,8 @@ impl Sizes {
     }
 }
 
-/// The tables of a sheet, lent to be filled. They may be longer than the sheet needs.
+/// The tables of a sheet, lent to be filled, one beside the other as callers and C programs keep them. They may be longer
+/// than the sheet needs.
 #[derive(Drop)]
 pub struct TablesMut<'a, K> {
     pub starts: &'a mut [u32],

@@ -11,7 +11,8 @@ use crate::record::{Record, State};
 use faults::{Fault, Refusal};
 use sheet::Sheet;
 
-/// A sheet and the records of its parcels, lent for reading. There need not be a record for each parcel.
+/// A sheet and the records of its parcels, lent for reading. There need not be a record for each parcel: where a step needs
+/// that, it asks it, and what calls it has tried it.
 #[derive(Clone, Copy)]
 pub struct Ledger<'a, K> {
     pub sheet: &'a Sheet<'a, K>,
@@ -27,7 +28,7 @@ pub struct Tally {
     pub lone: u32,
 }
 
-/// What the close of a round answers.
+/// What the close of a round answers: a tally and two counts, as four numbers in a row.
 #[derive(Clone, Copy, Debug, Default, PartialEq, Eq)]
 pub struct Totals {
     /// The pairs, each counted at its lower parcel.
@@ -126,7 +127,8 @@ impl<K: Copy> Ledger<'_, K> {
         self.partner_above(u).is_some()
     }
 
-    // How many pairs are recorded.
+    // How many pairs are recorded. This count and the next take no test as a parameter: what they count would then be said of
+    // its answers, and not of the records.
     fn count_pairs(self) -> u32
         ensures { result ≡ count_by (pairs_up (held self.entry.sheet.now) self.entry.records.now) (range_with_len 0 (parcels (held self.entry.sheet.now))) }
     {
@@ -138,10 +140,8 @@ impl<K: Copy> Ledger<'_, K> {
     fn is_lone(self, u: u32) -> bool
         ensures { result ≡ (state self.entry.records.now u == 3) }
     {
-        match self.records.get(u as usize) {
-            Some(record) => record.is(State::Lone),
-            None => false,
-        }
+        let record = self.records.get(u as usize);
+        record.is_some_and(|record| record.is(State::Lone))
     }
 
     // How many parcels are recorded lone.

@@ -10,7 +10,8 @@ use crate::tables::{Tables, find};
 use faults::Fault;
 use ranking::Ranking;
 
-/// Checks the tables, and puts the checked sheet that they make in the place of `sheet`.
+/// Checks the tables, and puts the checked sheet that they make in the place of `sheet`: whoever holds a sheet holds a checked one
+/// at all times, before a refusal and after it.
 ///
 /// Refuses, and then leaves `sheet` as it was, with the number and the place of what is wrong: a size (2, at 0), a
 /// table's length (3, at 0), the first parcel whose row or store is wrong (4), or else the first wrong entry in row

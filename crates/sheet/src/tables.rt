@@ -11,7 +11,8 @@ pub const MOST_ENTRIES: usize = 16384;
 /// The most stores of a sheet.
 pub const MOST_STORES: u32 = 64;
 
-/// The tables of a sheet, lent for reading, and its number of stores.
+/// The tables of a sheet, lent for reading, and its number of stores: one beside the other, as callers and C programs
+/// keep them.
 #[derive(Clone, Copy)]
 pub struct Tables<'a, K> {
     /// Where each parcel's row begins in `others`, and after the last where it ends.
@@ -24,6 +25,7 @@ pub struct Tables<'a, K> {
     pub stores: &'a [u32],
     /// The edition of each parcel's bands.
     pub editions: &'a [u16],
+    /// How many stores there are.
     pub store_count: u32,
 }
 
@@ -65,7 +67,7 @@ pub(crate) fn find(others: &[u32], row: Range<usize>, v: usize) -> Option<usize>
     ensures first { result ≡ place_between others.now row.start row.end v }
     ensures before { IfSome result (λ p. p < row.end) }
 {
-    // a number of the table's width makes for the shorter loop
+    // compared as `u32`, which is faster than as `usize`; by steps, since rows are not known to rise while they are checked
     let v = u32::try_from(v).ok()?;
     let start = row.start;
     others[row]

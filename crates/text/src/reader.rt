@@ -9,7 +9,13 @@ use super::{Fields, Lines, Part, number};
 fn find(bytes: &[u8], byte: u8) -> Option<usize>
     ensures { elim result [ Some i ↦ (i < length bytes.now) × (slice_index bytes.now i ≡ byte) × Free byte (take i bytes.now) | None ↦ Free byte bytes.now ] }
 {
-    bytes.iter().position(|b| *b == byte)
+    // a loop: `position` misses the bar of speed, as said at `all_digits`
+    for (i, b) in bytes.iter().enumerate() {
+        if *b == byte {
+            return Some(i);
+        }
+    }
+    None
 }
 
 impl<'a> Lines<'a> {
