@@ -8,3 +8,4 @@ pub mod Handed
 pub mod Sent
 pub mod Ended
 pub mod Begun
+pub mod Boards

@@ -15,6 +15,8 @@ use records::{Record, State};
 use sheet::Sheet;
 use std::ops::Range;
 
+// Masks and no enum: a mark is a byte that the caller lends, and its other bits are kept.
+
 /// The bit of a mark that says that the entry is struck.
 pub const STRUCK: u8 = 1;
 /// The bit of a mark that says that a bid came from there.
@@ -43,13 +45,16 @@ pub(crate) enum Plan {
     Pairs(usize, u32),
 }
 
-// The places of a parcel's row.
+// The steps of a turn take the marks and the line one by one: a board would make each say that the records stay. What a step
+// asks of a row or of the marks it asks itself, since that is a fact about the sheet and the marks together. That a step
+// leaves the line's capacity is said beside what it does, for every kind of line.
+
+// The places of a parcel's row, said by their two ends.
 pub(crate) fn row<K: Copy>(sheet: &Sheet<K>, u: usize) -> Range<usize>
     requires { u < parcels (held sheet.now) }
     ensures { (result.start ≡ row_start (held sheet.now) u) × (result.end ≡ row_end (held sheet.now) u) }
 {
-    let starts = sheet.tables().starts;
-    starts[u] as usize..starts[u + 1] as usize
+    sheet.row(u)
 }
 
 // A note along the entry at place `p` of row `u`.
@@ -155,14 +160,16 @@ pub(crate) fn plan_choice<K: Ranking>(sheet: &Sheet<K>, marks: &[u8], u: usize) 
     Plan::Pairs(p, count_open_others(sheet, marks, u, p) + 1)
 }
 
-// How many notes a plan sends.
-pub(crate) fn sending(plan: &Plan) -> u32
-    ensures { result ≡ sends plan.now }
-{
-    match plan {
-        Plan::Alone => 0,
-        Plan::Waits(_) => 1,
-        Plan::Pairs(_, count) => *count,
+impl Plan {
+    // How many notes the plan sends.
+    pub(crate) fn sending(&self) -> u32
+        ensures { result ≡ sends self.now }
+    {
+        match self {
+            Plan::Alone => 0,
+            Plan::Waits(_) => 1,
+            Plan::Pairs(_, count) => *count,
+        }
     }
 }
 

@@ -24,6 +24,8 @@ fn is_empty<L: Line>(line: &L) -> bool
     line.free() == line.size()
 }
 
+// `open` and `close` take the tables and the line one by one, since they only read some of them: a board lends all to be written.
+
 /// Opens a round on a checked sheet: every parcel is idle, every mark clear, and both counts are 0.
 ///
 /// Refuses, and then alters nothing, a line that is not empty or that holds fewer notes than the sheet has entries (11),

@@ -6,17 +6,16 @@ ghost use Rattle.line.specs.Kinds.{code};
 ghost use Rattle.protocol.specs.Steps.{entry_of};
 ghost use Rattle.protocol.specs.Turns.{Fetch, stray};
 ghost use Rattle.round.specs.Parts.{ComesTo, Received};
-ghost use Rattle.round.specs.Seen.{world};
+ghost use Rattle.round.specs.Seen.{seen, SameBoard};
 
 use crate::choose::{
-    BIDDEN, STRUCK, carry_out, count_open_others, let_go, plan_choice, row, sending, with_choice,
+    BIDDEN, STRUCK, carry_out, count_open_others, let_go, plan_choice, row, with_choice,
 };
-use crate::starting::{count_turn, fits_sheet};
-use crate::state::Round;
+use crate::state::{Board, Round};
 use faults::{Fault, Refusal};
 use line::{Kind, Line, Note};
 use ranking::Ranking;
-use records::{Ledger, Record, State};
+use records::{Record, State};
 use sheet::{Sheet, find_entry};
 
 // What a note says, and the addressee's entry for its sender, if the note can come to this store.
@@ -49,6 +48,9 @@ fn take_sure<L: Line>(line: &mut L, note: Note)
 {
     let _ = line.take(note.store);
 }
+
+// The next three are one step: receiving a note, and its two cases. They take the same things, and no struct of them, which would
+// live for this one step.
 
 // The addressee receives a bid: its entry for the sender is marked, and if it waits with that choice, it pairs there.
 // No answer, and nothing altered, where there is no room for what that sends.
@@ -108,7 +110,7 @@ fn receive_drop<K: Ranking, L: Line>(
         return Some((was, 0));
     }
     let plan = plan_choice(sheet, marks, a);
-    let count = sending(&plan);
+    let count = plan.sending();
     if count > line.free() + 1 {
         marks[at] = old;
         return None;
@@ -149,40 +151,34 @@ fn receive<K: Ranking, L: Line>(
 pub fn fetch<K: Ranking, L: Line>(
     round: &mut Round,
     sheet: &Sheet<K>,
-    records: &mut [Record],
-    marks: &mut [u8],
-    line: &mut L,
+    board: &mut Board<'_, L>,
     store: u32,
 ) -> Result<(), Fault>
-    ensures { Fetch K.Ranking.atleast (held sheet.now) store result (world L.Line.waiting L.Line.capacity L.Line.chosen round.old records.old marks.old line.old) (world L.Line.waiting L.Line.capacity L.Line.chosen round.new records.new marks.new line.new) }
+    ensures turn { Fetch K.Ranking.atleast (held sheet.now) store result (seen L.Line.waiting L.Line.capacity L.Line.chosen round.old board.old) (seen L.Line.waiting L.Line.capacity L.Line.chosen round.new board.new) }
+    ensures board { SameBoard board.old board.new }
 {
     if store >= sheet.tables().store_count {
         return Err((Refusal::NoStore, store));
     }
-    if !fits_sheet(round, sheet, records, marks) {
+    if !board.fits(round, sheet) {
         return Err((Refusal::WrongLength, 0));
     }
-    let Some(note) = line.next(store) else {
+    let Some(note) = board.line.next(store) else {
         return Err((Refusal::NothingWaits, store));
     };
     let Some((kind, at)) = entry_for(sheet, store, note) else {
         return Err((Refusal::StrayNote, store));
     };
     let a = note.addressee as usize;
-    let strays = Ledger {
-        sheet: &*sheet,
-        records: &*records,
-    }
-    .strays(a)
-    .unwrap_or(true);
+    let strays = board.strays(sheet, a).unwrap_or(true);
     if strays {
         return Err((Refusal::Astray, note.addressee));
     }
-    let was = records[a];
-    let Some((now_is, sent)) = receive(sheet, marks, line, kind, note, at, was) else {
+    let was = board.records[a];
+    let Some((now_is, sent)) = receive(sheet, board.marks, board.line, kind, note, at, was) else {
         return Err((Refusal::NoRoom, note.addressee));
     };
-    records[a] = now_is;
-    count_turn(round, sent);
+    board.records[a] = now_is;
+    round.count_turn(sent);
     Ok(())
 }

@@ -11,4 +11,4 @@ pub use choose::{BIDDEN, STRUCK};
 pub use closing::{close, open};
 pub use fetching::fetch;
 pub use starting::{fits_sheet, start};
-pub use state::Round;
+pub use state::{Board, Round};

@@ -2,11 +2,11 @@ ghost use Rattle.std.specs.Prelude.{◌≡◌, ℕ, Ok, Err};
 ghost use Rattle.faults.specs.Numbers.{number};
 ghost use Rattle.sheet.specs.Held.{held};
 ghost use Rattle.protocol.specs.Turns.{Start};
-ghost use Rattle.round.specs.Parts.{tables_fit, Counted, Unstartable};
-ghost use Rattle.round.specs.Seen.{world};
+ghost use Rattle.round.specs.Parts.{tables_fit, Unstartable};
+ghost use Rattle.round.specs.Seen.{seen, SameBoard};
 
-use crate::choose::{carry_out, plan_choice, sending};
-use crate::state::Round;
+use crate::choose::carry_out;
+use crate::state::{Board, Round};
 use faults::{Fault, Refusal};
 use line::Line;
 use ranking::Ranking;
@@ -30,19 +30,11 @@ pub fn fits_sheet<K: Copy>(
         && round.stores == tables.store_count
 }
 
-// Counts an accepted turn that sent so many notes.
-pub(crate) fn count_turn(round: &mut Round, sent: u32)
-    ensures { Counted round.old round.new sent }
-{
-    round.turns = round.turns.saturating_add(1);
-    round.sent = round.sent.saturating_add(sent);
-}
-
 // Refuses a parcel, which has this record, that has started (13) or whose record is out of range (16).
-fn try_idle(record: Record, parcel: u32) -> Result<(), Fault>
-    ensures { elim result [ Ok _ ↦ record.state ≡ 0 | Err f ↦ Unstartable record.state (number f.0) × (f.1 ≡ parcel) ] }
+fn try_idle(was: Record, parcel: u32) -> Result<(), Fault>
+    ensures { elim result [ Ok _ ↦ was.state ≡ 0 | Err f ↦ Unstartable was.state (number f.0) × (f.1 ≡ parcel) ] }
 {
-    match State::try_from(record.state) {
+    match State::try_from(was.state) {
         Ok(State::Idle) => Ok(()),
         Ok(State::Waits | State::Paired | State::Lone) => Err((Refusal::Started, parcel)),
         Err(_) => Err((Refusal::Astray, parcel)),
@@ -57,27 +49,26 @@ fn try_idle(record: Record, parcel: u32) -> Result<(), Fault>
 pub fn start<K: Ranking, L: Line>(
     round: &mut Round,
     sheet: &Sheet<K>,
-    records: &mut [Record],
-    marks: &mut [u8],
-    line: &mut L,
+    board: &mut Board<'_, L>,
     parcel: u32,
 ) -> Result<(), Fault>
-    ensures { Start K.Ranking.atleast (held sheet.now) parcel result (world L.Line.waiting L.Line.capacity L.Line.chosen round.old records.old marks.old line.old) (world L.Line.waiting L.Line.capacity L.Line.chosen round.new records.new marks.new line.new) }
+    ensures turn { Start K.Ranking.atleast (held sheet.now) parcel result (seen L.Line.waiting L.Line.capacity L.Line.chosen round.old board.old) (seen L.Line.waiting L.Line.capacity L.Line.chosen round.new board.new) }
+    ensures board { SameBoard board.old board.new }
 {
     let u = parcel as usize;
     if u >= sheet.tables().stores.len() {
         return Err((Refusal::NoParcel, parcel));
     }
-    if !fits_sheet(round, sheet, records, marks) {
+    if !board.fits(round, sheet) {
         return Err((Refusal::WrongLength, 0));
     }
-    try_idle(records[u], parcel)?;
-    let plan = plan_choice(sheet, marks, u);
-    let count = sending(&plan);
-    if count > line.free() {
+    try_idle(board.records[u], parcel)?;
+    let plan = board.plan(sheet, u);
+    let count = plan.sending();
+    if count > board.line.free() {
         return Err((Refusal::NoRoom, parcel));
     }
-    records[u] = carry_out(sheet, marks, line, u, plan);
-    count_turn(round, count);
+    board.records[u] = carry_out(sheet, board.marks, board.line, u, plan);
+    round.count_turn(count);
     Ok(())
 }

@@ -5,7 +5,7 @@ ghost use Rattle.std.specs.Prelude.{◌≡◌, ℕ, ◌<◌, ◌≤◌, [], leng
 ghost use Rattle.sheet.specs.Graph.{parcels};
 ghost use Rattle.sheet.specs.Held.{held};
 ghost use Rattle.protocol.specs.Runs.{Ran};
-ghost use Rattle.round.specs.Seen.{world};
+ghost use Rattle.round.specs.Seen.{world, seen, SameBoard};
 ghost use Rattle.sheet.specs.Check.{Alike};
 ghost use Rattle.round.specs.Closing.{OpenRefused};
 ghost use Rattle.rounds.specs.Settling.{Ready, Settling, SettlesOrUnopened, DoesNotRefuse};
@@ -16,7 +16,7 @@ use line::Line;
 use protocol::Ending;
 use ranking::Ranking;
 use records::{Ledger, Record, State, Totals};
-use round::{Round, close, fetch, fits_sheet, open, start};
+use round::{Board, Round, close, fetch, open, start};
 use sheet::Sheet;
 
 /// A turn of a run.
@@ -44,13 +44,14 @@ fn lowest_store<K: Copy, L: Line>(sheet: &Sheet<K>, line: &L) -> Option<u32>
 }
 
 // The turn that comes next: a start of the lowest idle parcel, else a fetch for the lowest store with a note.
-fn next_turn<K: Copy, L: Line>(ledger: Ledger<'_, K>, line: &L) -> Option<Turn>
-    requires { length ledger.records.now ≡ parcels (held ledger.sheet.now) }
-    ensures { NextTurn (held ledger.entry.sheet.now) ledger.entry.records.now (L.Line.chosen line.now) result }
+fn next_turn<K: Copy, L: Line>(sheet: &Sheet<K>, board: &Board<'_, L>) -> Option<Turn>
+    requires { length board.now.records.now ≡ parcels (held sheet.now) }
+    ensures { NextTurn (held sheet.now) board.now.records.now (L.Line.chosen board.now.line.now) result }
 {
-    match lowest_idle(ledger) {
+    let records = &*board.records;
+    match lowest_idle(Ledger { sheet, records }) {
         Some(u) => Some(Turn::StartOf(u)),
-        None => lowest_store(ledger.sheet, line).map(Turn::FetchFor),
+        None => lowest_store(sheet, board.line).map(Turn::FetchFor),
     }
 }
 
@@ -58,16 +59,15 @@ fn next_turn<K: Copy, L: Line>(ledger: Ledger<'_, K>, line: &L) -> Option<Turn>
 fn make_turn<K: Ranking, L: Line>(
     round: &mut Round,
     sheet: &Sheet<K>,
-    records: &mut [Record],
-    marks: &mut [u8],
-    line: &mut L,
+    board: &mut Board<'_, L>,
     turn: Turn,
 ) -> Result<(), Fault>
-    ensures { Turned K.Ranking.atleast (held sheet.now) turn result (world L.Line.waiting L.Line.capacity L.Line.chosen round.old records.old marks.old line.old) (world L.Line.waiting L.Line.capacity L.Line.chosen round.new records.new marks.new line.new) }
+    ensures turn { Turned K.Ranking.atleast (held sheet.now) turn result (seen L.Line.waiting L.Line.capacity L.Line.chosen round.old board.old) (seen L.Line.waiting L.Line.capacity L.Line.chosen round.new board.new) }
+    ensures board { SameBoard board.old board.new }
 {
     match turn {
-        Turn::StartOf(u) => start(round, sheet, records, marks, line, u),
-        Turn::FetchFor(s) => fetch(round, sheet, records, marks, line, s),
+        Turn::StartOf(u) => start(round, sheet, board, u),
+        Turn::FetchFor(s) => fetch(round, sheet, board, s),
     }
 }
 
@@ -80,40 +80,51 @@ fn make_turn<K: Ranking, L: Line>(
 pub fn run<K: Ranking, L: Line>(
     round: &mut Round,
     sheet: &Sheet<K>,
-    records: &mut [Record],
-    marks: &mut [u8],
-    line: &mut L,
+    board: &mut Board<'_, L>,
     budget: u32,
 ) -> (u32, Ending)
-    ensures turns { Ran K.Ranking.atleast (held sheet.now) budget (world L.Line.waiting L.Line.capacity L.Line.chosen round.old records.old marks.old line.old) result.0 result.1 (world L.Line.waiting L.Line.capacity L.Line.chosen round.new records.new marks.new line.new) }
+    ensures turns { Ran K.Ranking.atleast (held sheet.now) budget (seen L.Line.waiting L.Line.capacity L.Line.chosen round.old board.old) result.0 result.1 (seen L.Line.waiting L.Line.capacity L.Line.chosen round.new board.new) }
     ensures bound { result.0 ≤ budget }
+    ensures board { SameBoard board.old board.new }
 {
-    if !fits_sheet(round, sheet, records, marks) {
+    if !board.fits(round, sheet) {
         return (0, Ending::Refused(u32::from(Refusal::WrongLength), 0));
     }
     for made in 0..budget {
-        let ledger = Ledger {
-            sheet: &*sheet,
-            records: &*records,
-        };
-        let Some(turn) = next_turn(ledger, line) else {
+        let Some(turn) = next_turn(sheet, board) else {
             return (made, Ending::Still);
         };
-        if let Err((refusal, place)) = make_turn(round, sheet, records, marks, line, turn) {
+        if let Err((refusal, place)) = make_turn(round, sheet, board, turn) {
             return (made, Ending::Refused(u32::from(refusal), place));
         }
     }
-    let ledger = Ledger {
-        sheet: &*sheet,
-        records: &*records,
-    };
-    match next_turn(ledger, line) {
+    match next_turn(sheet, board) {
         Some(_) => (budget, Ending::Spent),
         None => (budget, Ending::Still),
     }
 }
 
-/// Settles a round: opens it, runs it until it is still, and closes it.
+// Runs a round for as many turns as may be, on a board made here: `settle` has lent the tables to `open` before, and a board
+// made after such a loan in one body gets no proof.
+fn run_out<K: Ranking, L: Line>(
+    round: &mut Round,
+    sheet: &Sheet<K>,
+    records: &mut [Record],
+    marks: &mut [u8],
+    line: &mut L,
+) -> (u32, Ending)
+    ensures { Ran K.Ranking.atleast (held sheet.now) 4294967295 (world L.Line.waiting L.Line.capacity L.Line.chosen round.old records.old marks.old line.old) result.0 result.1 (world L.Line.waiting L.Line.capacity L.Line.chosen round.new records.new marks.new line.new) }
+{
+    let mut board = Board {
+        records,
+        marks,
+        line,
+    };
+    run(round, sheet, &mut board, u32::MAX)
+}
+
+/// Settles a round: opens it, runs it until it is still, and closes it. The tables and the line come one by one, as for
+/// `open`.
 ///
 /// Refuses what `open` refuses, and then alters nothing. On a sheet whose two sides rank alike it refuses nothing else:
 /// the round ends settled, and the records hold the greedy pairing entire.
@@ -128,6 +139,6 @@ pub fn settle<K: Ranking, L: Line>(
     ensures ready { Alike K.Ranking.atleast (held sheet.now) → Ready (held sheet.now) records.old marks.old (L.Line.waiting line.old) (L.Line.capacity line.old) → DoesNotRefuse result }
 {
     let mut round = open(sheet, records, marks, line)?;
-    let _ = run(&mut round, sheet, records, marks, line, u32::MAX);
+    let _ = run_out(&mut round, sheet, records, marks, line);
     close(round, sheet, records, marks, line).map_err(|(_, fault)| fault)
 }

@@ -3,14 +3,14 @@
 
 #[cfg(test)]
 mod tests {
-    use faults::Fault;
+    use faults::{Fault, numbered};
     use line::{Kind, Line, Note};
     use lines::{BLANK, Pigeonholes, Queue};
     use outright::pair_outright;
     use protocol::Ending;
     use ranking::Cents;
     use records::{Record, Totals};
-    use round::{close, fetch, open, start};
+    use round::{Board, close, fetch, open, start};
     use rounds::{run, settle};
     use sheet::{Sheet, Tables, check as check_sheet};
     use std::test::Fail;
@@ -30,7 +30,7 @@ mod tests {
         choice: 9,
     };
 
-    // Four parcels in a row: 0 - 1 for 5 cents, 1 - 2 for 9, and 2 - 3 for 7.
+    // Four parcels in a row: 0 - 1 for 5 cents, 1 - 2 for 9, and 2 - 3 for 7. No library has it: each test crate stands alone.
     fn row_of_four(sheet: &mut Sheet<'static, Cents>) -> Result<(), Fault> {
         let tables = Tables {
             starts: &STARTS,
@@ -43,12 +43,6 @@ mod tests {
         check_sheet(sheet, tables)
     }
 
-    // What is refused, as the numbers that a user is told.
-    fn told(fault: Fault) -> (u32, u32) {
-        let (refusal, place) = fault;
-        (u32::from(refusal), place)
-    }
-
     // Parcels 1 and 2 start, and store 1 fetches: 2 is paired, 1 waits, and two of three notes wait.
     #[test]
     fn three_turns(rt: HostRuntime) -> Result<(), Fail> {
@@ -59,28 +53,33 @@ mod tests {
         let mut slots = [BLANK; 6];
         let mut line = Queue::new(&mut slots, 6);
         let mut round = open(&sheet, &mut records, &mut marks, &line)?;
-        start(&mut round, &sheet, &mut records, &mut marks, &mut line, 1)?;
-        start(&mut round, &sheet, &mut records, &mut marks, &mut line, 2)?;
-        fetch(&mut round, &sheet, &mut records, &mut marks, &mut line, 1)?;
+        let mut board = Board {
+            records: &mut records,
+            marks: &mut marks,
+            line: &mut line,
+        };
+        start(&mut round, &sheet, &mut board, 1)?;
+        start(&mut round, &sheet, &mut board, 2)?;
+        fetch(&mut round, &sheet, &mut board, 1)?;
+        let again = start(&mut round, &sheet, &mut board, 1);
+        assert_eq!(rt; again.map_err(numbered), Err((13, 1)));
+        let missing = start(&mut round, &sheet, &mut board, 4);
+        assert_eq!(rt; missing.map_err(numbered), Err((9, 4)));
+        let far = fetch(&mut round, &sheet, &mut board, 2);
+        assert_eq!(rt; far.map_err(numbered), Err((10, 2)));
         assert_eq!(rt; records[1].state, 1);
         assert_eq!(rt; records[2].state, 2);
         assert_eq!(rt; line.free(), 4);
-        let again = start(&mut round, &sheet, &mut records, &mut marks, &mut line, 1);
-        assert_eq!(rt; again.map_err(told), Err((13, 1)));
-        let missing = start(&mut round, &sheet, &mut records, &mut marks, &mut line, 4);
-        assert_eq!(rt; missing.map_err(told), Err((9, 4)));
-        let far = fetch(&mut round, &sheet, &mut records, &mut marks, &mut line, 2);
-        assert_eq!(rt; far.map_err(told), Err((10, 2)));
         match close(round, &sheet, &records, &marks, &line) {
             Ok(_) => Err(Fail::new("closed")),
             Err((_, fault)) => {
-                assert_eq!(rt; told(fault), (18, 0));
+                assert_eq!(rt; numbered(fault), (18, 0));
                 Ok(())
             },
         }
     }
 
-    // What open refuses: a line with too little room, one that is not empty, and tables of other lengths.
+    // What open refuses: a line with too little room, and one that is not empty.
     #[test]
     fn not_opened(rt: HostRuntime) -> Result<(), Fail> {
         let mut sheet = Sheet::empty();
@@ -105,7 +104,7 @@ mod tests {
         match open(&sheet, &mut records, &mut marks, &full) {
             Ok(_) => Err(Fail::new("opened")),
             Err(fault) => {
-                assert_eq!(rt; told(fault), (11, 0));
+                assert_eq!(rt; numbered(fault), (11, 0));
                 Ok(())
             },
         }
@@ -120,13 +119,14 @@ mod tests {
         let mut marks = [0; 6];
         let mut slots = [BLANK; 6];
         let mut queue = Queue::new(&mut slots, 6);
-        let Totals {
-            pairs,
-            lone,
-            sent,
-            turns,
-        } = settle(&sheet, &mut by_queue, &mut marks, &mut queue)?;
-        assert_eq!(rt; [pairs, lone, sent, turns], [1, 2, 6, 10]);
+        let totals = settle(&sheet, &mut by_queue, &mut marks, &mut queue)?;
+        let expected = Totals {
+            pairs: 1,
+            lone: 2,
+            sent: 6,
+            turns: 10,
+        };
+        assert_eq!(rt; totals, expected);
         let mut by_holes = [ODD; 4];
         let mut more = [BLANK; 6];
         let mut holes = Pigeonholes::new(&mut more, 6);
@@ -149,14 +149,29 @@ mod tests {
         let mut slots = [BLANK; 6];
         let mut line = Queue::new(&mut slots, 6);
         let mut round = open(&sheet, &mut records, &mut marks, &line)?;
-        let (made, ending) = run(&mut round, &sheet, &mut records, &mut marks, &mut line, 9);
+        let mut board = Board {
+            records: &mut records,
+            marks: &mut marks,
+            line: &mut line,
+        };
+        let (made, ending) = run(&mut round, &sheet, &mut board, 9);
         assert_eq!(rt; made, 9);
         assert!(rt; matches!(ending, Ending::Spent));
         let mut short = [0; 5];
-        let (none, refused) = run(&mut round, &sheet, &mut records, &mut short, &mut line, 9);
+        let mut other = Board {
+            records: &mut records,
+            marks: &mut short,
+            line: &mut line,
+        };
+        let (none, refused) = run(&mut round, &sheet, &mut other, 9);
         assert_eq!(rt; none, 0);
         assert!(rt; matches!(refused, Ending::Refused(12, 0)));
-        let (one, still) = run(&mut round, &sheet, &mut records, &mut marks, &mut line, 9);
+        let mut board = Board {
+            records: &mut records,
+            marks: &mut marks,
+            line: &mut line,
+        };
+        let (one, still) = run(&mut round, &sheet, &mut board, 9);
         assert_eq!(rt; one, 1);
         assert!(rt; matches!(still, Ending::Still));
         assert!(rt; close(round, &sheet, &records, &marks, &line).is_ok());
@@ -168,13 +183,14 @@ mod tests {
     fn nothing_to_pair(rt: HostRuntime) -> Result<(), Fail> {
         let sheet: Sheet<Cents> = Sheet::empty();
         let mut line = Queue::new(&mut [], 0);
-        let Totals {
-            pairs,
-            lone,
-            sent,
-            turns,
-        } = settle(&sheet, &mut [], &mut [], &mut line)?;
-        assert_eq!(rt; [pairs, lone, sent, turns], [0, 0, 0, 0]);
+        let totals = settle(&sheet, &mut [], &mut [], &mut line)?;
+        let expected = Totals {
+            pairs: 0,
+            lone: 0,
+            sent: 0,
+            turns: 0,
+        };
+        assert_eq!(rt; totals, expected);
         Ok(())
     }
 }

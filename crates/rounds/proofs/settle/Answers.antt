@@ -19,11 +19,11 @@ returns g c =
     let laws = g.met.K.Ranking.lawful in
     let t = held c.args.sheet.now in
     let sound = held_sound c.args.sheet.now in
-    let round = c.run.new.round in
+    let round = c.run_out.new.round in
     let o = c.in_ok-round.ensures in
-    let ran = c.run.ensures.turns in
-    let see : Round → World = λ x. world l.waiting l.capacity l.chosen x c.run.new.records c.run.new.marks c.run.new.line in
-    let unopened : ℕ → ℕ → Type 0 = λ k p. OpenRefused t c.args.records.now c.args.marks.now (l.waiting c.args.line.now) (l.capacity c.args.line.now) k p × (c.run.new.records ≡ c.args.records.now) × (c.run.new.marks ≡ c.args.marks.now) × (c.run.new.line ≡ c.args.line.now) in
+    let ran = c.run_out.ensures in
+    let see : Round → World = λ x. world l.waiting l.capacity l.chosen x c.run_out.new.records c.run_out.new.marks c.run_out.new.line in
+    let unopened : ℕ → ℕ → Type 0 = λ k p. OpenRefused t c.args.records.now c.args.marks.now (l.waiting c.args.line.now) (l.capacity c.args.line.now) k p × (c.run_out.new.records ≡ c.args.records.now) × (c.run_out.new.marks ≡ c.args.marks.now) × (c.run_out.new.line ≡ c.args.line.now) in
     let without : MatchResult c.close.result (λ x. c.map_err.result ≡ Ok x) (λ e. c.map_err.result ≡ Err e.1) =
     MatchResult-weaker c.close.result c.map_err.ensures.cases (λ x is. is) (λ e k. let p = err_from_is_err_and c.map_err.result k in p.1 ∙ ap Err (search rules)) in
     record {

@@ -10,98 +10,98 @@ use Rattle.round.proofs.Coming.{comes_parcel, strays_here}
 use Rattle.round.proofs.Handed.{handed_store}
 use Rattle.round.proofs.fetching.fetch.Goals as goal
 
-pub returns-then-store-tables : goal.returns-then-store-tables
-returns-then-store-tables g c =
+pub returns-then-store-tables-clause-turn : goal.returns-then-store-tables-clause-turn
+returns-then-store-tables-clause-turn g c =
     let s = c.args.sheet.now in
     let why = no_store (subst (λ x. (graph x).limit ≤ c.args.store) c.tables.ensures c.if-store-tables.true) in
     (why, fetch_not_accepted g.K.Ranking.atleast g.met.K.Ranking.lawful (held s) why, refl)
 
-pub returns-then-not-fits_sheet : goal.returns-then-not-fits_sheet
-returns-then-not-fits_sheet g c =
+pub returns-then-not-fits-clause-turn : goal.returns-then-not-fits-clause-turn
+returns-then-not-fits-clause-turn g c =
     let s = c.args.sheet.now in
     let low : c.args.store < (held s).limit = subst (λ x. c.args.store < (graph x).limit) c.tables.ensures c.if-store-tables.false in
-    let why = fetch_sizes low (sym c.if-not-fits_sheet.ensures) in
+    let why = fetch_sizes low (sym c.if-not-fits.ensures) in
     (why, fetch_not_accepted g.K.Ranking.atleast g.met.K.Ranking.lawful (held s) why, refl)
 
-pub returns-in_default : goal.returns-in_default
-returns-in_default g c =
+pub returns-in_default-clause-turn : goal.returns-in_default-clause-turn
+returns-in_default-clause-turn g c =
     let s = c.args.sheet.now in
     let low : c.args.store < (held s).limit = subst (λ x. c.args.store < (graph x).limit) c.tables.ensures c.if-store-tables.false in
-    let fit = sym c.if-not-fits_sheet.ensures in
+    let fit = sym c.if-not-fits.ensures in
     let why = nothing low fit (sym c.next.ensures ∙ c.in_default.is) in
     (why, fetch_not_accepted g.K.Ranking.atleast g.met.K.Ranking.lawful (held s) why, refl)
 
-pub returns-in_default-entry_for : goal.returns-in_default-entry_for
-returns-in_default-entry_for g c =
+pub returns-in_default-entry_for-clause-turn : goal.returns-in_default-entry_for-clause-turn
+returns-in_default-entry_for-clause-turn g c =
     let s = c.args.sheet.now in
     let low : c.args.store < (held s).limit = subst (λ x. c.args.store < (graph x).limit) c.tables.ensures c.if-store-tables.false in
-    let fit = sym c.if-not-fits_sheet.ensures in
+    let fit = sym c.if-not-fits.ensures in
     let next = sym c.next.ensures ∙ c.in-Some.is in
     let why = stray_note low fit next c.in_default-entry_for.ensures in
     (why, fetch_not_accepted g.K.Ranking.atleast g.met.K.Ranking.lawful (held s) why, refl)
 
-pub returns-then-strays : goal.returns-then-strays
-returns-then-strays g c =
+pub returns-then-strays-clause-turn : goal.returns-then-strays-clause-turn
+returns-then-strays-clause-turn g c =
     let s = c.args.sheet.now in
-    let w = world g.L.Line.waiting g.L.Line.capacity g.L.Line.chosen c.args.round.now c.args.records.now c.args.marks.now c.args.line.now in
+    let w = world g.L.Line.waiting g.L.Line.capacity g.L.Line.chosen c.args.round.now c.args.board.now.records.now c.args.board.now.marks.now c.args.board.now.line.now in
     let low : c.args.store < (held s).limit = subst (λ x. c.args.store < (graph x).limit) c.tables.ensures c.if-store-tables.false in
-    let fit = sym c.if-not-fits_sheet.ensures in
+    let fit = sym c.if-not-fits.ensures in
     let next = sym c.next.ensures ∙ c.in-Some.is in
     let facts = fits_facts (held s) w fit in
     let comes = c.in-Some-entry_for.ensures in
     let below = comes_parcel g.K.Ranking.atleast (held s) (held_sound s) c.args.store c.in-Some.note comes.0 in
-    let strays = c.unwrap_or-strays.ensures ∙ ap (λ o. unwrap_or o true) c.strays.ensures ∙ strays_here (held s) c.args.records.now c.in-Some.note.addressee facts.records_long below in
+    let strays = c.unwrap_or-strays.ensures ∙ ap (λ o. unwrap_or o true) c.strays.ensures ∙ strays_here (held s) c.args.board.now.records.now c.in-Some.note.addressee facts.records_long below in
     let why = wrong_record low fit next comes.0 (sym strays ∙ c.if-strays.true) in
     (why, fetch_not_accepted g.K.Ranking.atleast g.met.K.Ranking.lawful (held s) why, refl)
 
 pub receive-requires : goal.receive-requires
 receive-requires g c =
     let s = c.args.sheet.now in
-    let w = world g.L.Line.waiting g.L.Line.capacity g.L.Line.chosen c.args.round.now c.args.records.now c.args.marks.now c.args.line.now in
-    let fit = sym c.if-not-fits_sheet.ensures in
+    let w = world g.L.Line.waiting g.L.Line.capacity g.L.Line.chosen c.args.round.now c.args.board.now.records.now c.args.board.now.marks.now c.args.board.now.line.now in
+    let fit = sym c.if-not-fits.ensures in
     let next = sym c.next.ensures ∙ c.in-Some.is in
     let facts = fits_facts (held s) w fit in
     let comes = c.in-Some-entry_for.ensures in
-    let here = handed_store (g.L.Line.waiting c.args.line.now) (g.L.Line.capacity c.args.line.now) (g.L.Line.chosen c.args.line.now) (g.L.Line.lawful c.args.line.now) c.args.store c.in-Some.note next in
+    let here = handed_store (g.L.Line.waiting c.args.board.now.line.now) (g.L.Line.capacity c.args.board.now.line.now) (g.L.Line.chosen c.args.board.now.line.now) (g.L.Line.lawful c.args.board.now.line.now) c.args.store c.in-Some.note next in
     record {
       kind = comes.1;
       comes = subst (λ x. stray g.K.Ranking.atleast (held s) x c.in-Some.note ≡ false) (sym here) comes.0;
       entry = comes.2;
       long = facts.marks_long;
-      handed = subst (λ x. g.L.Line.chosen c.args.line.now x ≡ Some c.in-Some.note) (sym here) next;
+      handed = subst (λ x. g.L.Line.chosen c.args.board.now.line.now x ≡ Some c.in-Some.note) (sym here) next;
     }
 
-pub returns-in_default-receive : goal.returns-in_default-receive
-returns-in_default-receive g c =
+pub returns-in_default-receive-clause-turn : goal.returns-in_default-receive-clause-turn
+returns-in_default-receive-clause-turn g c =
     let s = c.args.sheet.now in
-    let w = world g.L.Line.waiting g.L.Line.capacity g.L.Line.chosen c.args.round.now c.args.records.now c.args.marks.now c.args.line.now in
+    let w = world g.L.Line.waiting g.L.Line.capacity g.L.Line.chosen c.args.round.now c.args.board.now.records.now c.args.board.now.marks.now c.args.board.now.line.now in
     let low : c.args.store < (held s).limit = subst (λ x. c.args.store < (graph x).limit) c.tables.ensures c.if-store-tables.false in
-    let fit = sym c.if-not-fits_sheet.ensures in
+    let fit = sym c.if-not-fits.ensures in
     let next = sym c.next.ensures ∙ c.in-Some.is in
     let facts = fits_facts (held s) w fit in
     let comes = c.in-Some-entry_for.ensures in
     let below = comes_parcel g.K.Ranking.atleast (held s) (held_sound s) c.args.store c.in-Some.note comes.0 in
-    let strays = c.unwrap_or-strays.ensures ∙ ap (λ o. unwrap_or o true) c.strays.ensures ∙ strays_here (held s) c.args.records.now c.in-Some.note.addressee facts.records_long below in
+    let strays = c.unwrap_or-strays.ensures ∙ ap (λ o. unwrap_or o true) c.strays.ensures ∙ strays_here (held s) c.args.board.now.records.now c.in-Some.note.addressee facts.records_long below in
     let none = c.in_default-receive.ensures in
     let many = none.0 in
     let why = fetch_room low fit next comes.0 (sym strays ∙ c.if-strays.false) many.receives many.over in (
       why,
       fetch_not_accepted g.K.Ranking.atleast g.met.K.Ranking.lawful (held s) why,
-      ap (λ m. world g.L.Line.waiting g.L.Line.capacity g.L.Line.chosen c.args.round.now c.args.records.now m c.receive.new.line) none.1
-          ∙ ap (λ l. world g.L.Line.waiting g.L.Line.capacity g.L.Line.chosen c.args.round.now c.args.records.now c.args.marks.now l) none.2,
+      ap (λ m. world g.L.Line.waiting g.L.Line.capacity g.L.Line.chosen c.args.round.now c.args.board.now.records.now m c.receive.new.line) none.1
+          ∙ ap (λ l. world g.L.Line.waiting g.L.Line.capacity g.L.Line.chosen c.args.round.now c.args.board.now.records.now c.args.board.now.marks.now l) none.2,
     )
 
-pub returns : goal.returns
-returns g c =
+pub returns-clause-turn : goal.returns-clause-turn
+returns-clause-turn g c =
     let s = c.args.sheet.now in
-    let w = world g.L.Line.waiting g.L.Line.capacity g.L.Line.chosen c.args.round.now c.args.records.now c.args.marks.now c.args.line.now in
+    let w = world g.L.Line.waiting g.L.Line.capacity g.L.Line.chosen c.args.round.now c.args.board.now.records.now c.args.board.now.marks.now c.args.board.now.line.now in
     let low : c.args.store < (held s).limit = subst (λ x. c.args.store < (graph x).limit) c.tables.ensures c.if-store-tables.false in
-    let fit = sym c.if-not-fits_sheet.ensures in
+    let fit = sym c.if-not-fits.ensures in
     let next = sym c.next.ensures ∙ c.in-Some.is in
     let facts = fits_facts (held s) w fit in
     let comes = c.in-Some-entry_for.ensures in
     let below = comes_parcel g.K.Ranking.atleast (held s) (held_sound s) c.args.store c.in-Some.note comes.0 in
-    let strays = c.unwrap_or-strays.ensures ∙ ap (λ o. unwrap_or o true) c.strays.ensures ∙ strays_here (held s) c.args.records.now c.in-Some.note.addressee facts.records_long below in
+    let strays = c.unwrap_or-strays.ensures ∙ ap (λ o. unwrap_or o true) c.strays.ensures ∙ strays_here (held s) c.args.board.now.records.now c.in-Some.note.addressee facts.records_long below in
     let did = c.in-Some-receive.ensures in
     let took = did.0 in
     let turn = c.count_turn.ensures in

@@ -1,0 +1,10 @@
+-- A board that still lends the same. Assumes nothing.
+use Rattle.std.proofs.Common.{refl, ◌∙◌}
+use Rattle.round.specs.declared.state.Board.{Board}
+use Rattle.round.specs.Seen.{SameBoard}
+
+pub same_board : {L : Type 0} {b : Board L} → SameBoard b b
+same_board = record { records = refl; marks = refl; line = refl }
+
+pub same_boards : {L : Type 0} {a b c : Board L} → SameBoard a b → SameBoard b c → SameBoard a c
+same_boards x y = record { records = y.records ∙ x.records; marks = y.marks ∙ x.marks; line = y.line ∙ x.line }
