@@ -7,7 +7,7 @@ ghost use Rattle.faults.specs.declared.Refusal.{Refusal};
 ghost use Rattle.sheet_text.specs.Within.{CheckingWithin, PairingWithin};
 ghost use Rattle.door.specs.Answers.{Answers, Decides, Short};
 
-use faults::Fault;
+use faults::{Fault, numbered};
 use reading::Sizes;
 use sheet::{MOST_ENTRIES, MOST_PARCELS};
 use sheet_text::{check_text, memory_for, pair_text, tables_for};
@@ -47,11 +47,14 @@ impl From<Result<usize, Fault>> for Answer {
                 written,
                 ..Answer::default()
             },
-            Err((refusal, place)) => Answer {
-                number: u32::from(refusal),
-                place,
-                ..Answer::default()
-            },
+            Err(fault) => {
+                let (number, place) = numbered(fault);
+                Answer {
+                    number,
+                    place,
+                    ..Answer::default()
+                }
+            }
         }
     }
 }
@@ -67,11 +70,14 @@ impl From<Result<Sizes, Fault>> for Verdict {
                 stores: sizes.stores,
                 ..Verdict::default()
             },
-            Err((refusal, place)) => Verdict {
-                number: u32::from(refusal),
-                place,
-                ..Verdict::default()
-            },
+            Err(fault) => {
+                let (number, place) = numbered(fault);
+                Verdict {
+                    number,
+                    place,
+                    ..Verdict::default()
+                }
+            }
         }
     }
 }

@@ -22,6 +22,7 @@ const MOST_RESULT: usize = 1_024;
 // Fills the buffer with input, as far as that goes, and answers how many bytes there were.
 fn fill<R: Read>(input: &mut R, buffer: &mut [u8]) -> io::Result<usize> {
     let mut filled = 0;
+    // by hand, since `read_exact` refuses an input shorter than the buffer, and what fills a `Vec` needs a heap
     while filled < buffer.len() {
         let count = input.read(&mut buffer[filled..])?;
         if count == 0 {

@@ -48,8 +48,8 @@ impl MemoryMut<'_> {
     }
 }
 
-/// Tables for a sheet of so many parcels and entries, on the caller's stack. It is a macro, since an array of a
-/// parameter's length may have no place one longer.
+/// Tables for a sheet of so many parcels and entries, on the caller's stack. It is a macro, since the length
+/// of an array cannot be computed from a parameter.
 #[macro_export]
 macro_rules! tables_for {
     ($parcels:expr, $entries:expr) => {

@@ -104,6 +104,8 @@ fn check_and_settle<L: Line>(
     settle_again(&sheet, records, marks, line, repeat)
 }
 
+// One function for each kind of line, since C has no type parameters, and tables one by one, as C lends them.
+
 /// Checks the tables, and then settles rounds of their sheet over one queue, so many one after the other. The queue has
 /// the named capacity, or 16,384 or the buffer's length if either is less.
 #[unsafe(no_mangle)]

@@ -1,11 +1,13 @@
+//! The answers as C takes them: it has no `Result`, and so a number, which is not 0 where a call is refused. The crate
+//! `door` answers by structs of its own, which other programs use.
 ghost use Rattle.std.specs.Prelude.{◌≡◌};
 ghost use Rattle.stages.specs.Answers.{verdict_of, reading_of, outcome_of};
 
-use faults::Fault;
+use faults::{Fault, numbered};
 use reading::Sizes;
 use records::Totals;
 
-/// What a stage answers: the number and the place of its refusal, or 0 and 0, since C has no `Result`.
+/// What a stage answers: the number and the place of its refusal, or 0 and 0.
 #[repr(C)]
 #[derive(Clone, Copy, Default)]
 pub struct Verdict {
@@ -42,10 +44,10 @@ impl From<Result<(), Fault>> for Verdict {
     fn from(answer: Result<(), Fault>) -> Verdict {
         match answer {
             Ok(()) => Verdict::default(),
-            Err((refusal, place)) => Verdict {
-                number: u32::from(refusal),
-                place,
-            },
+            Err(fault) => {
+                let (number, place) = numbered(fault);
+                Verdict { number, place }
+            }
         }
     }
 }
@@ -61,11 +63,14 @@ impl From<Result<Sizes, Fault>> for Reading {
                 stores: sizes.stores,
                 ..Reading::default()
             },
-            Err((refusal, place)) => Reading {
-                number: u32::from(refusal),
-                place,
-                ..Reading::default()
-            },
+            Err(fault) => {
+                let (number, place) = numbered(fault);
+                Reading {
+                    number,
+                    place,
+                    ..Reading::default()
+                }
+            }
         }
     }
 }
@@ -82,11 +87,14 @@ impl From<Result<Totals, Fault>> for Outcome {
                 turns: totals.turns,
                 ..Outcome::default()
             },
-            Err((refusal, place)) => Outcome {
-                number: u32::from(refusal),
-                place,
-                ..Outcome::default()
-            },
+            Err(fault) => {
+                let (number, place) = numbered(fault);
+                Outcome {
+                    number,
+                    place,
+                    ..Outcome::default()
+                }
+            }
         }
     }
 }
