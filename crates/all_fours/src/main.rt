@@ -12,6 +12,7 @@ use results::worth;
 use rounds::settle;
 use sheet::{Sheet, Tables, check};
 use std::alloc::{AllocError, Global};
+use std::num::Saturating;
 
 const SHEETS: u32 = 4_096;
 
@@ -35,18 +36,18 @@ struct Rows {
 // What came of a sheet, or of all.
 #[derive(Clone, Copy, Default)]
 struct Outcome {
-    pairs: u32,
-    lone: u32,
-    cents: u64,
-    apart: u32,
+    pairs: Saturating<u32>,
+    lone: Saturating<u32>,
+    cents: Saturating<u64>,
+    apart: Saturating<u32>,
 }
 
 impl Outcome {
     fn add(&mut self, one: Outcome) {
-        self.pairs = self.pairs.saturating_add(one.pairs);
-        self.lone = self.lone.saturating_add(one.lone);
-        self.cents = self.cents.saturating_add(one.cents);
-        self.apart = self.apart.saturating_add(one.apart);
+        self.pairs += one.pairs;
+        self.lone += one.lone;
+        self.cents += one.cents;
+        self.apart += one.apart;
     }
 }
 
@@ -99,13 +100,13 @@ fn pair(sheet: &Sheet<Cents>) -> Result<Outcome, Fault> {
     let mut outright = [Record::IDLE; 4];
     pair_outright(sheet, &mut outright, &mut [0; 4])?;
     Ok(Outcome {
-        pairs: totals.pairs,
-        lone: totals.lone,
-        cents: worth(Ledger {
+        pairs: Saturating(totals.pairs),
+        lone: Saturating(totals.lone),
+        cents: Saturating(worth(Ledger {
             sheet,
             records: &by_queue,
-        })?,
-        apart: u32::from(by_queue != by_holes || by_queue != outright),
+        })?),
+        apart: Saturating(u32::from(by_queue != by_holes || by_queue != outright)),
     })
 }
 
@@ -135,10 +136,10 @@ fn main(rt: HostRuntime) -> anyhow::Result<()> {
         }
     }
     let Outcome {
-        pairs,
-        lone,
-        cents,
-        apart,
+        pairs: Saturating(pairs),
+        lone: Saturating(lone),
+        cents: Saturating(cents),
+        apart: Saturating(apart),
     } = all;
     println!(rt; "{SHEETS} sheets: {pairs} pairs, {lone} lone parcels, {cents} cents")?;
     println!(rt; "{refused} refused, {apart} apart")?;

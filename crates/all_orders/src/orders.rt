@@ -4,7 +4,7 @@ use faults::{Fault, Refusal};
 use line::Line;
 use ranking::Cents;
 use records::{Record, State, Totals};
-use round::{Round, close, fetch, start};
+use round::{Board, Round, close, fetch, start};
 use rounds::{Turn, run};
 use sheet::Sheet;
 
@@ -48,25 +48,32 @@ fn highest_idle(records: &[Record]) -> Option<u32> {
     })
 }
 
+// Closes the round, on the board that it was played on.
+fn close_on<L: Line>(
+    round: Round,
+    sheet: &Sheet<Cents>,
+    board: &Board<'_, L>,
+) -> Result<Totals, (Round, Fault)> {
+    close(round, sheet, board.records, board.marks, board.line)
+}
+
 // Makes turn after turn until there is none left, or one is refused. Picks between a start of the highest idle parcel and
 // a fetch for the highest store that a note waits for.
 fn take_turns<L: Line, P: Fn(Option<Turn>, Option<Turn>) -> Option<Turn>>(
     pick: P,
     round: &mut Round,
     sheet: &Sheet<Cents>,
-    records: &mut [Record],
-    marks: &mut [u8],
-    line: &mut L,
+    board: &mut Board<'_, L>,
 ) -> Result<(), Fault>
     requires { P.IsAlwaysCallable pick }
 {
     let stores = sheet.tables().store_count;
     for _ in 0..MOST_TURNS {
-        let to_start = highest_idle(records).map(Turn::StartOf);
-        let to_fetch = highest_store(stores, line).map(Turn::FetchFor);
+        let to_start = highest_idle(board.records).map(Turn::StartOf);
+        let to_fetch = highest_store(stores, board.line).map(Turn::FetchFor);
         match pick(to_start, to_fetch) {
-            Some(Turn::StartOf(u)) => start(round, sheet, records, marks, line, u)?,
-            Some(Turn::FetchFor(s)) => fetch(round, sheet, records, marks, line, s)?,
+            Some(Turn::StartOf(u)) => start(round, sheet, board, u)?,
+            Some(Turn::FetchFor(s)) => fetch(round, sheet, board, s)?,
             None => break,
         }
     }
@@ -82,14 +89,12 @@ fn is_started(records: &[Record], u: u32) -> bool {
 fn start_again<L: Line>(
     round: &mut Round,
     sheet: &Sheet<Cents>,
-    records: &mut [Record],
-    marks: &mut [u8],
-    line: &mut L,
+    board: &mut Board<'_, L>,
 ) -> Option<u32> {
     let mut refused: u32 = 0;
     for u in 0..PARCELS {
-        if is_started(records, u) {
-            if start(round, sheet, records, marks, line, u) != Err((Refusal::Started, u)) {
+        if is_started(board.records, u) {
+            if start(round, sheet, board, u) != Err((Refusal::Started, u)) {
                 return None;
             }
             refused = refused.saturating_add(1);
@@ -102,14 +107,12 @@ fn start_again<L: Line>(
 fn with_refusals<L: Line>(
     mut round: Round,
     sheet: &Sheet<Cents>,
-    records: &mut [Record],
-    marks: &mut [u8],
-    line: &mut L,
+    board: &mut Board<'_, L>,
 ) -> Option<Course> {
     let mut closes: u32 = 0;
     let mut starts: u32 = 0;
     for _ in 0..=MOST_TURNS {
-        round = match close(round, sheet, records, marks, line) {
+        round = match close_on(round, sheet, board) {
             Ok(totals) => {
                 return Some(Course {
                     totals,
@@ -121,14 +124,15 @@ fn with_refusals<L: Line>(
             Err(_) => return None,
         };
         closes = closes.saturating_add(1);
-        starts = starts.saturating_add(start_again(&mut round, sheet, records, marks, line)?);
-        let _ = run(&mut round, sheet, records, marks, line, 1);
+        starts = starts.saturating_add(start_again(&mut round, sheet, board)?);
+        let _ = run(&mut round, sheet, board, 1);
     }
     None
 }
 
 /// Takes an open round to its close in this order. No answer where a call is refused that has to be accepted, or the
 /// other way round: no caller asks which, since all such rounds are counted alike.
+// the tables and the line come one by one: a board made after `open` in the caller's body gets no proof
 pub fn play<L: Line>(
     order: Order,
     mut round: Round,
@@ -137,21 +141,26 @@ pub fn play<L: Line>(
     marks: &mut [u8],
     line: &mut L,
 ) -> Option<Course> {
+    let mut board = Board {
+        records,
+        marks,
+        line,
+    };
     match order {
         Order::InOneRun => {
-            let _ = run(&mut round, sheet, records, marks, line, u32::MAX);
+            let _ = run(&mut round, sheet, &mut board, u32::MAX);
         }
         Order::StartsFirst => {
             let pick = |to_start: Option<Turn>, to_fetch| to_start.or(to_fetch);
-            take_turns(pick, &mut round, sheet, records, marks, line).ok()?;
+            take_turns(pick, &mut round, sheet, &mut board).ok()?;
         }
         Order::FetchesFirst => {
             let pick = |to_start, to_fetch: Option<Turn>| to_fetch.or(to_start);
-            take_turns(pick, &mut round, sheet, records, marks, line).ok()?;
+            take_turns(pick, &mut round, sheet, &mut board).ok()?;
         }
-        Order::WithRefusals => return with_refusals(round, sheet, records, marks, line),
+        Order::WithRefusals => return with_refusals(round, sheet, &mut board),
     }
-    let totals = close(round, sheet, records, marks, line).ok()?;
+    let totals = close_on(round, sheet, &board).ok()?;
     Some(Course {
         totals,
         closes: 0,

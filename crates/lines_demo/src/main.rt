@@ -113,6 +113,7 @@ fn main(rt: HostRuntime) -> io::Result<()> {
 #[cfg(test)]
 mod tests {
     use super::*;
+    use faults::numbered;
     use lines::ask;
 
     fn note(sender: u32, store: u32) -> Note {
@@ -124,12 +125,6 @@ mod tests {
         }
     }
 
-    // a fault as a user is told it
-    fn numbered(fault: Fault) -> (u32, u32) {
-        let (refusal, place) = fault;
-        (u32::from(refusal), place)
-    }
-
     // the senders of three notes for store 5, with one for another store between them, in the order they are handed out
     fn handed<L: Line>(line: &mut L) -> [Answer; 4] {
         let _ = line.put(note(1, 5));
@@ -138,6 +133,8 @@ mod tests {
         let _ = line.put(note(3, 5));
         [5; 4].map(|store| play(line, Step::Take(store)))
     }
+
+    // the two kinds one beside the other, so that their answers can be compared
 
     #[test]
     fn queue_hands_the_oldest(rt: HostRuntime) {

@@ -3,8 +3,9 @@
 
 #[cfg(test)]
 mod tests {
+    use faults::numbered;
     use ranking::{Cents, Ranking, Staged};
-    use reading::{TablesMut, read};
+    use reading::{Sizes, TablesMut, read};
     use std::test::Fail;
     use text::{Fields, Lines};
 
@@ -14,8 +15,7 @@ mod tests {
 
     // The number and the place of what refuses a text; none where it is read into the tables.
     fn refused<K: Ranking>(text: &str, mut tables: TablesMut<'_, K>) -> Option<(u32, u32)> {
-        let (refusal, place) = read(text.as_bytes(), &mut tables).err()?;
-        Some((u32::from(refusal), place))
+        read(text.as_bytes(), &mut tables).err().map(numbered)
     }
 
     // The same with room for four parcels and six entries, and for so many keys.
@@ -204,7 +204,7 @@ mod tests {
 
     // The values stand in the places needed, and the other places are as they were.
     #[test]
-    fn tables_of_cents(rt: HostRuntime) -> Result<(), Fail> {
+    fn tables_of_cents(rt: HostRuntime) {
         let mut starts = [9; 6];
         let mut others = [9; 7];
         let mut keys = [Cents(9); 7];
@@ -217,20 +217,17 @@ mod tests {
             stores: &mut stores,
             editions: &mut editions,
         };
-        let sizes = read(ROW.as_bytes(), &mut tables);
-        let sizes = sizes.ok().ok_or("refused")?;
-        assert_eq!(rt; (sizes.parcels, sizes.entries, sizes.stores), (4, 6, 2));
+        let sizes = Sizes {
+            parcels: 4,
+            entries: 6,
+            stores: 2,
+        };
+        assert_eq!(rt; read(ROW.as_bytes(), &mut tables), Ok(sizes));
         assert_eq!(rt; starts, [0, 1, 3, 5, 6, 9]);
         assert_eq!(rt; others, [1, 0, 2, 1, 3, 2, 9]);
-        assert_eq!(rt;
-            [
-                keys[0].0, keys[1].0, keys[2].0, keys[3].0, keys[4].0, keys[5].0, keys[6].0,
-            ],
-            [5, 5, 9, 9, 7, 7, 9]
-        );
+        assert_eq!(rt; keys.map(|key| key.0), [5, 5, 9, 9, 7, 7, 9]);
         assert_eq!(rt; stores, [0, 0, 1, 1, 9]);
         assert_eq!(rt; editions, [21, 21, 21, 22, 9]);
-        Ok(())
     }
 
     // Rows with no entry start where the next one does.
@@ -253,10 +250,15 @@ mod tests {
         assert_eq!(rt; answer.err(), None);
         assert_eq!(rt; starts, [0, 0, 2, 2, 2]);
         assert_eq!(rt; others, [3, 2]);
-        assert_eq!(rt;
-            [keys[0].band, keys[0].cents, keys[1].band, keys[1].cents],
-            [2, 900, 0, 4294967295]
-        );
+        let fine = Staged {
+            band: 2,
+            cents: 900,
+        };
+        let finest = Staged {
+            band: 0,
+            cents: 4294967295,
+        };
+        assert_eq!(rt; keys, [fine, finest]);
         assert_eq!(rt; stores, [2, 0, 1, 0]);
         assert_eq!(rt; editions, [1, 65535, 0, 7]);
     }
@@ -278,13 +280,10 @@ mod tests {
             editions: &mut editions,
         };
         let answer = read(text.as_bytes(), &mut tables);
-        let numbers = answer
-            .err()
-            .map(|(refusal, place)| (u32::from(refusal), place));
-        assert_eq!(rt; numbers, Some((1, 5)));
+        assert_eq!(rt; answer.err().map(numbered), Some((1, 5)));
         assert_eq!(rt; starts, [9; 3]);
         assert_eq!(rt; others, [9; 2]);
-        assert_eq!(rt; [keys[0].0, keys[1].0], [9; 2]);
+        assert_eq!(rt; keys, [Cents(9); 2]);
         assert_eq!(rt; stores, [9; 2]);
         assert_eq!(rt; editions, [9; 2]);
     }

@@ -3,7 +3,7 @@
 
 #[cfg(test)]
 mod tests {
-    use faults::Fault;
+    use faults::{Fault, numbered};
     use ranking::Cents;
     use records::{Ledger, Record, State, Tally, Totals};
     use results::{result_text, worth};
@@ -41,7 +41,7 @@ mod tests {
         turns: 10,
     };
 
-    // Four parcels in a row: 0 - 1 for 5 cents, 1 - 2 for 9, and 2 - 3 for 7.
+    // Four parcels in a row: 0 - 1 for 5 cents, 1 - 2 for 9, and 2 - 3 for 7. No library has it: each test crate stands alone.
     fn row_of_four(sheet: &mut Sheet<'static, Cents>) -> Result<(), Fault> {
         let tables = Tables {
             starts: &STARTS,
@@ -54,13 +54,8 @@ mod tests {
         check_sheet(sheet, tables)
     }
 
-    // What is refused, in numbers.
-    fn numbered<T>(answer: Result<T, Fault>) -> Result<T, (u32, u32)> {
-        answer.map_err(|fault| (u32::from(fault.0), fault.1))
-    }
-
     fn worth_of(sheet: &Sheet<Cents>, records: &[Record]) -> Result<u64, (u32, u32)> {
-        numbered(worth(Ledger { sheet, records }))
+        worth(Ledger { sheet, records }).map_err(numbered)
     }
 
     fn printed(
@@ -69,11 +64,11 @@ mod tests {
         totals: Totals,
         buffer: &mut [u8],
     ) -> Result<usize, (u32, u32)> {
-        numbered(result_text(Ledger { sheet, records }, totals, buffer))
+        result_text(Ledger { sheet, records }, totals, buffer).map_err(numbered)
     }
 
     fn tried(sheet: &Sheet<Cents>, records: &[Record]) -> Result<(), (u32, u32)> {
-        numbered(Ledger { sheet, records }.try_records())
+        Ledger { sheet, records }.try_records().map_err(numbered)
     }
 
     #[test]

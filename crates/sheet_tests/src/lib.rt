@@ -4,24 +4,21 @@
 
 #[cfg(test)]
 mod tests {
-    use faults::Fault;
+    use faults::numbered;
     use ranking::Cents;
     use reading::{TablesMut, read};
     use sheet::{Sheet, Tables};
 
-    // The first `count` places of a table, or all where there are fewer.
+    // The first `count` places of a table, or all where there are fewer. The program `pairs` has its own, with a contract.
     fn front<T>(table: &[T], count: usize) -> &[T] {
         &table[..table.len().min(count)]
     }
 
-    // The number and the place of a fault.
-    fn numbers((refusal, place): Fault) -> (u32, u32) {
-        (u32::from(refusal), place)
-    }
-
     // What the check answers of these tables; none where they pass.
     fn refusal(tables: Tables<Cents>) -> Option<(u32, u32)> {
-        sheet::check(&mut Sheet::empty(), tables).err().map(numbers)
+        sheet::check(&mut Sheet::empty(), tables)
+            .err()
+            .map(numbered)
     }
 
     // The same of a text, with room for four parcels and six entries.
@@ -47,7 +44,7 @@ mod tests {
                 editions: front(&editions, sizes.parcels as usize),
                 store_count: sizes.stores,
             }),
-            Err(fault) => Some(numbers(fault)),
+            Err(fault) => Some(numbered(fault)),
         }
     }
 
