@@ -64,7 +64,11 @@ place_of t u v = first_place t.others (row_end t u - row_start t u) (row_start t
 abbrev pub row : {K : Type 0} → Graph K → ℕ → Range ℕ
 row t u = cond (nat_lt u (parcels t)) (record { start = row_start t u; end = row_end t u }) (record { start = 0; end = 0 })
 
--- that place, if u is a parcel and its row names v
+-- the place of the entry at place k of row u, counted from the row's beginning; none where the row has no such entry, or the sheet no such parcel
+abbrev pub place_at : {K : Type 0} → Graph K → ℕ → ℕ → Option ℕ
+place_at t u k = cond (nat_lt u (parcels t) && nat_lt (row_start t u + k) (row_end t u)) (Some (row_start t u + k)) None
+
+-- the first place of row u that names v, if u is a parcel and its row names v
 abbrev pub entry_between : {K : Type 0} → Graph K → ℕ → ℕ → Option ℕ
 entry_between t u v = cond (nat_lt u (parcels t) && nat_lt (place_of t u v) (row_end t u)) (Some (place_of t u v)) None
 

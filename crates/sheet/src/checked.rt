@@ -1,5 +1,5 @@
 ghost use Rattle.std.specs.Prelude.{◌≡◌, ℕ, ◌<◌, true};
-ghost use Rattle.sheet.specs.Graph.{InRow, parcels, sized, fitted, bare_right, parcel_right, rises, mirrored, one_edition, no_parcels, row};
+ghost use Rattle.sheet.specs.Graph.{InRow, parcels, sized, fitted, bare_right, parcel_right, rises, mirrored, one_edition, no_parcels, row, place_at};
 ghost use Rattle.sheet.specs.View.{graph};
 
 use crate::tables::Tables;
@@ -50,5 +50,15 @@ impl<'a, K: Copy> Sheet<'a, K> {
     {
         let t = self.tables;
         if u < t.stores.len() { t.row(u) } else { 0..0 }
+    }
+
+    /// The place among the entries of the entry at place `choice` of row `u`, counted from the row's beginning; none where
+    /// the row has no such entry, or the sheet no such parcel.
+    pub fn place(&self, u: usize, choice: u32) -> Option<usize>
+        ensures { result ≡ place_at (graph self.now.tables) u choice }
+    {
+        let row = self.row(u);
+        let place = row.start + choice as usize;
+        (place < row.end).then_some(place)
     }
 }
