@@ -1,7 +1,7 @@
 pub mod Lists
 pub mod Passed
 pub mod Next
-pub mod Marks
+pub mod Starts
 pub mod Wrong
 pub mod Only
 pub mod Lent

@@ -1,4 +1,4 @@
-ghost use Rattle.std.specs.Prelude.{◌≡◌, ℕ, ◌+◌, ◌<◌, ◌≤◌, List, [], ◌∷◌, length, Ok, Err};
+ghost use Rattle.std.specs.Prelude.{◌≡◌, ℕ, ◌+◌, ◌<◌, List, [], ◌∷◌, length, Ok, Err};
 ghost use Rattle.text.specs.Parts.{left};
 ghost use Rattle.reading.specs.declared.rows.Parcel.{Parcel};
 ghost use Rattle.text.specs.Rows.{Begins};

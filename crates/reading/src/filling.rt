@@ -1,4 +1,4 @@
-ghost use Rattle.std.specs.Prelude.{◌≡◌, ℕ, ◌+◌, ◌<◌, ◌≤◌, List, length, slice_index};
+ghost use Rattle.std.specs.Prelude.{◌≡◌, ℕ, ◌<◌, ◌≤◌, List, length, slice_index};
 ghost use Rattle.text.specs.Parts.{left};
 ghost use Rattle.reading.specs.declared.rows.Parcel.{Parcel};
 ghost use Rattle.reading.specs.Listing.{Entry};
@@ -11,7 +11,7 @@ use super::rows::{entry_line, parcel_line};
 use ranking::Ranking;
 
 // Writes the value into the places from `from` up to, not including, `to`.
-fn mark(starts: &mut [u32], from: u32, to: u32, value: u32)
+fn fill_starts(starts: &mut [u32], from: u32, to: u32, value: u32)
     requires in_turn { from ≤ to }
     requires room { to ≤ length starts.old }
     ensures before { (k : ℕ) → k < from → slice_index starts.new k ≡ slice_index starts.old k }
@@ -50,18 +50,18 @@ impl<K: Ranking> TablesMut<'_, K> {
         let sizes = body.sizes;
         let mut low = 0;
         // the rows below this one have their start
-        let mut marked = 0;
+        let mut started = 0;
         // `j` is where a row may start, and an entry's place in two tables
         for j in 0..sizes.entries {
             let Some(entry) = entry_line::<K>(&mut body.lines, sizes.parcels, low) else {
                 unreachable();
             };
             low = entry.row;
-            mark(self.starts, marked, low + 1, j);
-            marked = low + 1;
+            fill_starts(self.starts, started, low + 1, j);
+            started = low + 1;
             self.others[j as usize] = entry.other;
             self.keys[j as usize] = entry.key;
         }
-        mark(self.starts, marked, sizes.parcels + 1, sizes.entries);
+        fill_starts(self.starts, started, sizes.parcels + 1, sizes.entries);
     }
 }

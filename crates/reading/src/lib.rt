@@ -9,22 +9,12 @@ use checking::Body;
 use faults::{Fault, Refusal};
 use ranking::Ranking;
 use rows::first_line;
+use sheet::sizes_within;
 use text::Lines;
 
 mod checking;
 mod filling;
 mod rows;
-
-// The crate `sheet` has these limits too; neither needs the other.
-
-/// The most parcels of a sheet.
-const MOST_PARCELS: u32 = 1_024;
-
-/// The most entries.
-const MOST_ENTRIES: u32 = 16_384;
-
-/// The most stores; there is at least one.
-const MOST_STORES: u32 = 64;
 
 /// How many parcels, entries and stores a sheet has.
 #[derive(Clone, Copy, Debug, PartialEq, Eq)]
@@ -38,9 +28,7 @@ impl Sizes {
     fn is_within(self) -> bool
         ensures { Decides result (Within self) }
     {
-        self.parcels <= MOST_PARCELS
-            && self.entries <= MOST_ENTRIES
-            && (1..=MOST_STORES).contains(&self.stores)
+        sizes_within(self.parcels as usize, self.entries as usize, self.stores)
     }
 }
 

@@ -1,4 +1,4 @@
-ghost use Rattle.std.specs.Prelude.{◌≡◌, ℕ, ◌<◌, ◌≤◌, ◌⊎◌, List, [], ◌∷◌, length, Some, None};
+ghost use Rattle.std.specs.Prelude.{◌≡◌, ℕ, ◌≤◌, ◌⊎◌, List, [], ◌∷◌, length, Some, None};
 ghost use Rattle.text.specs.Parts.{left};
 ghost use Rattle.text.specs.Rows.{Begins};
 ghost use Rattle.reading.specs.declared.Sizes.{Sizes};

@@ -76,9 +76,13 @@ entry_between t u v = cond (nat_lt u (parcels t) && nat_lt (place_of t u v) (row
 abbrev pub mirror : {K : Type 0} → Graph K → ℕ → ℕ → ℕ
 mirror t u p = place_of t (other t p) u
 
+-- the limits of a sheet allow n parcels, e entries and s stores
+abbrev pub within_limits : ℕ → ℕ → ℕ → Bool
+within_limits n e s = nat_le n 1024 && (nat_le e 16384 && (nat_le 1 s && nat_le s 64))
+
 -- the sizes are within the limits
 abbrev pub sized : {K : Type 0} → Graph K → Bool
-sized t = nat_le (parcels t) 1024 && (nat_le (entries t) 16384 && (nat_le 1 t.limit && nat_le t.limit 64))
+sized t = within_limits (parcels t) (entries t) t.limit
 
 -- every table has its length
 abbrev pub fitted : {K : Type 0} → Graph K → Bool

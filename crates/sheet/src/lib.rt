@@ -8,4 +8,4 @@ mod tables;
 
 pub use checked::Sheet;
 pub use checking::{check, find_entry};
-pub use tables::{MOST_ENTRIES, MOST_PARCELS, MOST_STORES, Tables};
+pub use tables::{MOST_ENTRIES, MOST_PARCELS, MOST_STORES, Tables, sizes_within};

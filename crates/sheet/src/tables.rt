@@ -1,5 +1,5 @@
 ghost use Rattle.std.specs.Prelude.{◌≡◌, ◌+◌, ◌<◌, ◌≤◌, true, length, IfSome};
-ghost use Rattle.sheet.specs.Graph.{row_start, row_end, sized, fitted, place_between};
+ghost use Rattle.sheet.specs.Graph.{row_start, row_end, within_limits, sized, fitted, place_between};
 ghost use Rattle.sheet.specs.View.{graph};
 
 use std::ops::Range;
@@ -8,8 +8,15 @@ use std::ops::Range;
 pub const MOST_PARCELS: usize = 1024;
 /// The most entries of a sheet.
 pub const MOST_ENTRIES: usize = 16384;
-/// The most stores of a sheet.
+/// The most stores of a sheet; there is at least one.
 pub const MOST_STORES: u32 = 64;
+
+/// Whether the limits allow a sheet of so many parcels, entries and stores.
+pub fn sizes_within(parcels: usize, entries: usize, stores: u32) -> bool
+    ensures { result ≡ within_limits parcels entries stores }
+{
+    parcels <= MOST_PARCELS && entries <= MOST_ENTRIES && (1..=MOST_STORES).contains(&stores)
+}
 
 /// The tables of a sheet, lent for reading, and its number of stores: one beside the other, as callers and C programs
 /// keep them.
@@ -34,10 +41,7 @@ impl<'a, K: Copy> Tables<'a, K> {
     pub(crate) fn sizes_right(&self) -> bool
         ensures { result ≡ sized (graph self.now) }
     {
-        self.stores.len() <= MOST_PARCELS
-            && self.others.len() <= MOST_ENTRIES
-            && 1 <= self.store_count
-            && self.store_count <= MOST_STORES
+        sizes_within(self.stores.len(), self.others.len(), self.store_count)
     }
 
     // Whether every table has its length.

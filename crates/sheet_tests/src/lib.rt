@@ -9,7 +9,7 @@ mod tests {
     use reading::{TablesMut, read};
     use sheet::{Sheet, Tables};
 
-    // The first `count` places of a table, or all where there are fewer. The program `pairs` has its own, with a contract.
+    // The first `count` places of a table, or all where there are fewer.
     fn front<T>(table: &[T], count: usize) -> &[T] {
         &table[..table.len().min(count)]
     }

@@ -5,7 +5,7 @@ use Rattle.reading.specs.Listing.{NeverFalls, key_of}
 use Rattle.reading.specs.Outcome.{tables}
 use Rattle.reading.proofs.Lent.{same_slices}
 use Rattle.reading.proofs.Lists.{one_longer, laid_more}
-use Rattle.reading.proofs.Marks.{Written, marks, marks_push, marks_all}
+use Rattle.reading.proofs.Starts.{Written, started_to, started_push, started_all}
 use Rattle.reading.proofs.Next.{next_entry}
 use Rattle.reading.proofs.Passed.{row_of, last_row, falls_last, entries_push}
 use Rattle.reading.proofs.TablesMut.fill_entries.Goals as goal
@@ -45,16 +45,16 @@ loop-j-preserved g c =
     let same = so.12 in
     let low = c.in-Some.entry.row in
     let known : low < c.args.body.now.sizes.parcels = omega (arith, told.row, told.fit.known) in
-    let above : c.loop-j.marked ≤ low + 1 = omega (arith, so.3, told.row, told.in_order) in
-    let new : Written c.loop-j.self.starts.now c.mark.new.starts c.loop-j.marked (low + 1) c.loop-j.j = record { before = c.mark.ensures.before; within = λ k h l. let w = c.mark.ensures.within k h l in omega arith; after = c.mark.ensures.after } in (
+    let above : c.loop-j.started ≤ low + 1 = omega (arith, so.3, told.row, told.in_order) in
+    let new : Written c.loop-j.self.starts.now c.fill_starts.new.starts c.loop-j.started (low + 1) c.loop-j.j = record { before = c.fill_starts.ensures.before; within = λ k h l. let w = c.fill_starts.ensures.within k h l in omega arith; after = c.fill_starts.ensures.after } in (
       so.0 ++ x ∷ [],
       one_longer so.0 x so.1,
       last_row so.0 x ∙ sym told.row,
       omega arith,
       omega arith,
       entries_push x so.5 told.fit (omega (arith, so.2, told.in_order)) told.written,
-      marks_push x (marks (low + 1) so.6 (subst (Written _ _ _ _) (sym so.1) new) above) (ap (λ n. n + 1) told.row),
-      c.mark.auto.starts ∙ so.7,
+      started_push x (started_to (low + 1) so.6 (subst (Written _ _ _ _) (sym so.1) new) above) (ap (λ n. n + 1) told.row),
+      c.fill_starts.auto.starts ∙ so.7,
       laid_more (λ y. y.other) so.0 x _ _ _ c.loop-j.j so.8 so.1 (omega (arith, room.others)) told.other,
       laid_more (key_of g.K.Ranking.made) so.0 x _ _ _ c.loop-j.j so.9 so.1 (omega (arith, room.keys)) told.key,
       so.10,
@@ -66,8 +66,8 @@ pub returns : goal.returns
 returns g c =
     let so = c.loop-j.invariant in
     let all : length so.0 ≡ c.args.body.now.sizes.entries = omega (arith, so.1) in
-    let new : Written c.loop-j.self.starts.now c.mark-2.new.starts c.loop-j.marked (c.args.body.now.sizes.parcels + 1) c.args.body.now.sizes.entries = record { before = c.mark-2.ensures.before; within = c.mark-2.ensures.within; after = c.mark-2.ensures.after } in
-    let starts = marks_all c.args.body.now.sizes.parcels (marks (c.args.body.now.sizes.parcels + 1) so.6 (subst (Written _ _ _ _) (sym all) new) (omega (arith, so.4))) (c.mark-2.auto.starts ∙ so.7) c.requires.room.starts in
+    let new : Written c.loop-j.self.starts.now c.fill_starts-2.new.starts c.loop-j.started (c.args.body.now.sizes.parcels + 1) c.args.body.now.sizes.entries = record { before = c.fill_starts-2.ensures.before; within = c.fill_starts-2.ensures.within; after = c.fill_starts-2.ensures.after } in
+    let starts = started_all c.args.body.now.sizes.parcels (started_to (c.args.body.now.sizes.parcels + 1) so.6 (subst (Written _ _ _ _) (sym all) new) (omega (arith, so.4))) (c.fill_starts-2.auto.starts ∙ so.7) c.requires.room.starts in
     let same = so.12 in
     record {
       entries = (so.0, all, so.5, λ i. tables (starts i) (so.8 i) (so.9 i) (so.10 i) (so.11 i));

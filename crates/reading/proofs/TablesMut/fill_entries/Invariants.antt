@@ -3,7 +3,7 @@ use Rattle.text.specs.Parts.{left}
 use Rattle.reading.specs.Listing.{Entry, key_of}
 use Rattle.reading.specs.Outcome.{laid, SameSlices}
 use Rattle.reading.specs.Passing.{Entries}
-use Rattle.reading.proofs.Marks.{Marked}
+use Rattle.reading.proofs.Starts.{Started}
 use Rattle.reading.proofs.Passed.{row_of, last}
 use Rattle.reading.proofs.TablesMut.fill_entries.Given as goal
 
@@ -12,10 +12,10 @@ invariant-loop-j g l =
     (xs : List Entry)
     × (length xs ≡ l.j)
     × (last (map row_of xs) ≡ l.low)
-    × (l.marked ≤ l.low + 1)
-    × (l.marked ≤ l.sizes.parcels)
+    × (l.started ≤ l.low + 1)
+    × (l.started ≤ l.sizes.parcels)
     × Entries g.K.Ranking.fields l.sizes.parcels xs (left l.initial.body.lines) (left l.body.lines)
-    × Marked l.initial.self.starts.now l.self.starts.now xs l.marked
+    × Started l.initial.self.starts.now l.self.starts.now xs l.started
     × (length l.self.starts.now ≡ length l.initial.self.starts.now)
     × (l.self.others.now ≡ laid (map (λ x. x.other) xs) l.initial.self.others.now)
     × (l.self.keys.now ≡ laid (map (key_of g.K.Ranking.made) xs) l.initial.self.keys.now)

@@ -26,11 +26,11 @@ below_push w xs x h =
     let sum = sum_by_push (λ y. cond {A = ℕ} (ltb y.row w) 1 0) xs x in
     omega arith
 
--- the rows below `marked` have their starts, of which there are `old` ones in the other places
-pub record Marked (old starts : List ℕ) (xs : List Entry) (marked : ℕ) : Type 0 where
-  pub rows : AllByRecursion (λ x. x.row < marked) xs
-  pub counted : (w : ℕ) → w < marked → get_or starts w 0 ≡ below w xs
-  pub kept : (w : ℕ) → marked ≤ w → get_or starts w 0 ≡ get_or old w 0
+-- the rows below `started` have their starts, of which there are `old` ones in the other places
+pub record Started (old starts : List ℕ) (xs : List Entry) (started : ℕ) : Type 0 where
+  pub rows : AllByRecursion (λ x. x.row < started) xs
+  pub counted : (w : ℕ) → w < started → get_or starts w 0 ≡ below w xs
+  pub kept : (w : ℕ) → started ≤ w → get_or starts w 0 ≡ get_or old w 0
 
 -- the places from `from` up to `to` are written
 pub record Written (was is : List ℕ) (from to value : ℕ) : Type 0 where
@@ -38,27 +38,27 @@ pub record Written (was is : List ℕ) (from to value : ℕ) : Type 0 where
   pub within : (k : ℕ) → from ≤ k → k < to → get_or is k 0 ≡ value
   pub after : (k : ℕ) → to ≤ k → get_or is k 0 ≡ get_or was k 0
 
--- up to `to`, where no row below it is written yet from `marked` on
-pub marks : {old was is : List ℕ} {xs : List Entry} {marked : ℕ} (to : ℕ) → Marked old was xs marked → Written was is marked to (length xs) → marked ≤ to → Marked old is xs to
-marks {xs} {marked} to m s h =
+-- up to `to`, where no row below it is written yet from `started` on
+pub started_to : {old was is : List ℕ} {xs : List Entry} {started : ℕ} (to : ℕ) → Started old was xs started → Written was is started to (length xs) → started ≤ to → Started old is xs to
+started_to {xs} {started} to m s h =
     record {
-      rows = All-weaker (λ x. x.row < marked) (λ x. x.row < to) (λ x l. omega arith) xs m.rows;
-      counted = λ w l. ⊎_elim (λ b. s.before w b ∙ m.counted w b) (λ a. s.within w a l ∙ sym (below_all w xs (All-weaker (λ x. x.row < marked) (λ x. x.row < w) (λ x k. omega arith) xs m.rows))) (cases_lt w marked);
+      rows = All-weaker (λ x. x.row < started) (λ x. x.row < to) (λ x l. omega arith) xs m.rows;
+      counted = λ w l. ⊎_elim (λ b. s.before w b ∙ m.counted w b) (λ a. s.within w a l ∙ sym (below_all w xs (All-weaker (λ x. x.row < started) (λ x. x.row < w) (λ x k. omega arith) xs m.rows))) (cases_lt w started);
       kept = λ w l. s.after w l ∙ m.kept w (omega arith);
     }
 
--- an entry of the last row that is marked
-pub marks_push : {old starts : List ℕ} {xs : List Entry} {marked : ℕ} (x : Entry) → Marked old starts xs marked → marked ≡ x.row + 1 → Marked old starts (xs ++ x ∷ []) marked
-marks_push {xs} {marked} x m e =
+-- an entry of the last row that has its start
+pub started_push : {old starts : List ℕ} {xs : List Entry} {started : ℕ} (x : Entry) → Started old starts xs started → started ≡ x.row + 1 → Started old starts (xs ++ x ∷ []) started
+started_push {xs} {started} x m e =
     record {
-      rows = All-push (λ y. y.row < marked) xs x m.rows (omega arith);
+      rows = All-push (λ y. y.row < started) xs x m.rows (omega arith);
       counted = λ w l. m.counted w l ∙ sym (below_push w xs x (omega arith));
       kept = m.kept;
     }
 
 -- with the starts of all rows the table is laid out
-pub marks_all : {old starts : List ℕ} {xs : List Entry} (parcels : ℕ) → Marked old starts xs (parcels + 1) → length starts ≡ length old → parcels + 1 ≤ length old → starts ≡ laid (starts_of parcels xs) old
-marks_all {old} {starts} {xs} parcels m e h =
+pub started_all : {old starts : List ℕ} {xs : List Entry} (parcels : ℕ) → Started old starts xs (parcels + 1) → length starts ≡ length old → parcels + 1 ≤ length old → starts ≡ laid (starts_of parcels xs) old
+started_all {old} {starts} {xs} parcels m e h =
     let f : ℕ → ℕ = λ u. below u xs in
     let vs = map f (range_with_len 0 (parcels + 1)) in
     let long : length vs ≡ parcels + 1 = length-map-range_with_len f 0 (parcels + 1) in
