@@ -9,6 +9,7 @@ use outright::pair_outright;
 use ranking::Cents;
 use records::{Ledger, Record, Totals};
 use results::worth;
+use round::Board;
 use rounds::settle;
 use sheet::{Sheet, Tables, check};
 use std::alloc::{AllocError, Global};
@@ -85,7 +86,12 @@ fn settle_over<L: Line>(
     let mut records = [Record::IDLE; 4];
     let mut bits = [0; MOST_ENTRIES];
     let marks = &mut bits[..MOST_ENTRIES.min(sheet.tables().others.len())];
-    let totals = settle(sheet, &mut records, marks, line)?;
+    let mut board = Board {
+        records: &mut records,
+        marks,
+        line,
+    };
+    let totals = settle(sheet, &mut board)?;
     Ok((records, totals))
 }
 
@@ -100,8 +106,8 @@ fn pair(sheet: &Sheet<Cents>) -> Result<Outcome, Fault> {
     let mut outright = [Record::IDLE; 4];
     pair_outright(sheet, &mut outright, &mut [0; 4])?;
     Ok(Outcome {
-        pairs: Saturating(totals.pairs),
-        lone: Saturating(totals.lone),
+        pairs: Saturating(totals.tally.pairs),
+        lone: Saturating(totals.tally.lone),
         cents: Saturating(worth(Ledger {
             sheet,
             records: &by_queue,

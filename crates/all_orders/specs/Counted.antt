@@ -6,8 +6,8 @@ use Rattle.all_orders.specs.declared.counts.Settled.{Settled}
 -- pairs, lone parcels and cents are the definition's; each of the four parcels and each note took one turn; and there
 -- were no more notes than entries
 pub record CountsRight (x : Expected) (y : Settled) : Type 0 where
-  pub pairs : y.course.totals.pairs ≡ x.pairs
-  pub lone : y.course.totals.lone ≡ x.lone
+  pub pairs : y.course.totals.tally.pairs ≡ x.pairs
+  pub lone : y.course.totals.tally.lone ≡ x.lone
   pub cents : y.cents ≡ x.cents
   pub turns : y.course.totals.turns ≡ y.course.totals.sent + 4
   pub notes : y.course.totals.sent ≤ x.entries

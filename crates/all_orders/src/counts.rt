@@ -57,8 +57,8 @@ fn counts_right(expected: &Expected, settled: &Settled) -> bool
     ensures { T result → CountsRight expected.now settled.now }
 {
     let totals = settled.course.totals;
-    totals.pairs == expected.pairs
-        && totals.lone == expected.lone
+    totals.tally.pairs == expected.pairs
+        && totals.tally.lone == expected.lone
         && settled.cents == expected.cents
         && u64::from(totals.turns) == u64::from(totals.sent) + u64::from(PARCELS)
         && totals.sent <= expected.entries

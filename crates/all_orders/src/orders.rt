@@ -4,7 +4,7 @@ use faults::{Fault, Refusal};
 use line::Line;
 use ranking::Cents;
 use records::{Record, State, Totals};
-use round::{Board, Round, close, fetch, start};
+use round::{Board, Round, fetch, start};
 use rounds::{Turn, run};
 use sheet::Sheet;
 
@@ -46,15 +46,6 @@ fn highest_idle(records: &[Record]) -> Option<u32> {
         let record = records.get(*u as usize);
         record.is_some_and(|record| record.is(State::Idle))
     })
-}
-
-// Closes the round, on the board that it was played on.
-fn close_on<L: Line>(
-    round: Round,
-    sheet: &Sheet<Cents>,
-    board: &Board<'_, L>,
-) -> Result<Totals, (Round, Fault)> {
-    close(round, sheet, board.records, board.marks, board.line)
 }
 
 // Makes turn after turn until there is none left, or one is refused. Picks between a start of the highest idle parcel and
@@ -112,7 +103,7 @@ fn with_refusals<L: Line>(
     let mut closes: u32 = 0;
     let mut starts: u32 = 0;
     for _ in 0..=MOST_TURNS {
-        round = match close_on(round, sheet, board) {
+        round = match board.close(round, sheet) {
             Ok(totals) => {
                 return Some(Course {
                     totals,
@@ -132,35 +123,27 @@ fn with_refusals<L: Line>(
 
 /// Takes an open round to its close in this order. No answer where a call is refused that has to be accepted, or the
 /// other way round: no caller asks which, since all such rounds are counted alike.
-// the tables and the line come one by one: a board made after `open` in the caller's body gets no proof
 pub fn play<L: Line>(
     order: Order,
     mut round: Round,
     sheet: &Sheet<Cents>,
-    records: &mut [Record],
-    marks: &mut [u8],
-    line: &mut L,
+    board: &mut Board<'_, L>,
 ) -> Option<Course> {
-    let mut board = Board {
-        records,
-        marks,
-        line,
-    };
     match order {
         Order::InOneRun => {
-            let _ = run(&mut round, sheet, &mut board, u32::MAX);
+            let _ = run(&mut round, sheet, board, u32::MAX);
         }
         Order::StartsFirst => {
             let pick = |to_start: Option<Turn>, to_fetch| to_start.or(to_fetch);
-            take_turns(pick, &mut round, sheet, &mut board).ok()?;
+            take_turns(pick, &mut round, sheet, board).ok()?;
         }
         Order::FetchesFirst => {
             let pick = |to_start, to_fetch: Option<Turn>| to_fetch.or(to_start);
-            take_turns(pick, &mut round, sheet, &mut board).ok()?;
+            take_turns(pick, &mut round, sheet, board).ok()?;
         }
-        Order::WithRefusals => return with_refusals(round, sheet, &mut board),
+        Order::WithRefusals => return with_refusals(round, sheet, board),
     }
-    let totals = close_on(round, sheet, &board).ok()?;
+    let totals = board.close(round, sheet).ok()?;
     Some(Course {
         totals,
         closes: 0,

@@ -9,7 +9,7 @@ use outright::pair_outright;
 use ranking::Cents;
 use records::{Ledger, Record};
 use results::worth;
-use round::open;
+use round::Board;
 use sheet::{Sheet, Tables, check};
 use std::alloc::{AllocError, Global};
 
@@ -53,21 +53,27 @@ static ORDERS: [Order; ORDER_COUNT] = [
 
 static EDITIONS: [u16; 4] = [1, 1, 1, 1];
 
+// What the recorded pairs are worth, if the records are right. It is apart from the round, since a body that lends the sheet to a
+// call with a board and then to a ledger gets no proof.
+fn worth_of(sheet: &Sheet<Cents>, records: &[Record]) -> Option<u64> {
+    worth(Ledger { sheet, records }).ok()
+}
+
 // A round over this line, in this order of calls. No answer where a call is not answered as it has to be.
 fn try_round<L: Line>(sheet: &Sheet<Cents>, order: Order, line: &mut L) -> Option<Settled> {
     let mut records = [Record::IDLE; 4];
     let mut bits = [0; MOST_ENTRIES];
     let marks = &mut bits[..MOST_ENTRIES.min(sheet.tables().others.len())];
-    let round = open(sheet, &mut records, marks, line).ok()?;
-    let course = play(order, round, sheet, &mut records, marks, line)?;
-    let ledger = Ledger {
-        sheet,
-        records: &records,
+    let mut board = Board {
+        records: &mut records,
+        marks,
+        line,
     };
-    let cents = worth(ledger).ok()?;
+    let round = board.open(sheet).ok()?;
+    let course = play(order, round, sheet, &mut board)?;
     Some(Settled {
         records,
-        cents,
+        cents: worth_of(sheet, &records)?,
         course,
     })
 }

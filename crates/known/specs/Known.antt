@@ -68,7 +68,7 @@ pub record SixNotes : Type 0 where
   pub only : (rs : List Record) (m : List ℕ) (k p : ℕ) → OpenRefused path rs m [] 5 k p → (k ≡ 11) × (p ≡ 0)
 
 abbrev pub nothing : Totals
-nothing = record { pairs = 0; lone = 0; sent = 0; turns = 0 }
+nothing = record { tally = record { pairs = 0; lone = 0 }; sent = 0; turns = 0 }
 
 -- a size one past a limit
 abbrev pub OnePast : Graph Cents → Type 0

@@ -55,8 +55,6 @@ mod tests {
     use std::process::Abort;
     use std::test::Fail;
 
-    const LEFT: Record = Record::LONE;
-
     fn at(choice: u32) -> Record {
         Record::new(State::Paired, choice)
     }
@@ -91,7 +89,7 @@ mod tests {
             editions: &[21, 21, 21, 21],
             store_count: 2,
         };
-        pairs(&rt, tables, &[LEFT, at(1), at(0), LEFT])
+        pairs(&rt, tables, &[Record::LONE, at(1), at(0), Record::LONE])
     }
 
     #[test]
@@ -122,16 +120,16 @@ mod tests {
             editions: &[21, 21, 21],
             store_count: 1,
         };
-        pairs(&rt, tables, &[LEFT, at(1), at(0)])
+        pairs(&rt, tables, &[Record::LONE, at(1), at(0)])
     }
 
     #[test]
     fn refusals(rt: HostRuntime) -> Result<(), Fail> {
         let sheet: Sheet<Cents> = Sheet::empty();
-        let mut records = [LEFT; 1];
+        let mut records = [Record::LONE; 1];
         let refused = pair_outright(&sheet, &mut records, &mut []);
         assert!(rt; refused.map_err(numbered) == Err((12, 0)));
-        assert!(rt; records[0] == LEFT);
+        assert!(rt; records[0] == Record::LONE);
         pair_outright(&sheet, &mut [], &mut [])?;
         Ok(())
     }

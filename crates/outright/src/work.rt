@@ -151,9 +151,7 @@ impl Work<'_> {
         ensures none_waits { NoneWaitsAt (held sheet.now) self.new.records.now u }
     {
         let tables = sheet.tables();
-        let start = tables.starts[u as usize] as usize;
-        let end = tables.starts[u as usize + 1] as usize;
-        let row = &tables.others[start..end];
+        let row = &tables.others[sheet.row(u as usize)];
         for v in row {
             if self.waits_at(sheet, *v as usize, u as usize) {
                 self.settle(sheet, *v);

@@ -20,7 +20,7 @@ pub struct Ledger<'a, K> {
 }
 
 /// How many pairs and lone parcels records say there are.
-#[derive(Clone, Copy, Debug, PartialEq, Eq)]
+#[derive(Clone, Copy, Debug, Default, PartialEq, Eq)]
 pub struct Tally {
     /// The pairs, each counted at its lower parcel.
     pub pairs: u32,
@@ -28,13 +28,11 @@ pub struct Tally {
     pub lone: u32,
 }
 
-/// What the close of a round answers: a tally and two counts, as four numbers in a row.
+/// What the close of a round answers: what its records come to, and what it took to get there.
 #[derive(Clone, Copy, Debug, Default, PartialEq, Eq)]
 pub struct Totals {
-    /// The pairs, each counted at its lower parcel.
-    pub pairs: u32,
-    /// The parcels in the state `Lone`.
-    pub lone: u32,
+    /// The pairs and the lone parcels.
+    pub tally: Tally,
     /// The notes that were sent.
     pub sent: u32,
     /// The turns that were accepted.

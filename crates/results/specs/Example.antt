@@ -16,4 +16,4 @@ abbrev pub RowOfFour : Type 0
 RowOfFour =
     (sum_by (chosen_cents sheet middle_paired) (lower_pairs sheet middle_paired) ≡ 9)
     × (sum_by (pair_cents sheet) (lower_pairs sheet middle_paired) ≡ 9)
-    × (result_text (record { pairs = 1; lone = 2; sent = 6; turns = 10 }) (middle ∷ []) ≡ codes "1,2,6,10\n1,2\n")
+    × (result_text (record { tally = record { pairs = 1; lone = 2 }; sent = 6; turns = 10 }) (middle ∷ []) ≡ codes "1,2,6,10\n1,2\n")

@@ -28,7 +28,7 @@ pair_line p = line (p.lo ∷ p.hi ∷ [])
 
 -- the line of the four numbers
 abbrev pub totals_line : Totals → List ℕ
-totals_line n = line (n.pairs ∷ n.lone ∷ n.sent ∷ n.turns ∷ [])
+totals_line n = line (n.tally.pairs ∷ n.tally.lone ∷ n.sent ∷ n.turns ∷ [])
 
 -- the result text: the line of the four numbers, then one for each pair
 abbrev pub result_text : Totals → List Pair → List ℕ

@@ -56,7 +56,12 @@ pub fn result_text<K: Copy>(
 {
     ledger.try_records()?;
     // The text is measured first, since a refusal leaves the buffer as it was.
-    let numbers = [totals.pairs, totals.lone, totals.sent, totals.turns];
+    let numbers = [
+        totals.tally.pairs,
+        totals.tally.lone,
+        totals.sent,
+        totals.turns,
+    ];
     if buffer.len() < line_length(&numbers) + pairs_length(ledger) {
         return Err((Refusal::Room, 0));
     }

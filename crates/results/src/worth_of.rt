@@ -1,4 +1,4 @@
-ghost use Rattle.std.specs.Prelude.{◌≡◌, ℕ, if◌then◌else◌, Ok, Err};
+ghost use Rattle.std.specs.Prelude.{◌≡◌, if◌then◌else◌, Ok, Err};
 ghost use Rattle.faults.specs.Numbers.{number};
 ghost use Rattle.sheet.specs.Held.{held};
 ghost use Rattle.records.specs.Right.{Refused};

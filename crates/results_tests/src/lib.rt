@@ -35,8 +35,7 @@ mod tests {
     ];
 
     const TOTALS: Totals = Totals {
-        pairs: 1,
-        lone: 2,
+        tally: Tally { pairs: 1, lone: 2 },
         sent: 6,
         turns: 10,
     };
@@ -108,8 +107,10 @@ mod tests {
         let sheet: Sheet<Cents> = Sheet::empty();
         let most = u32::MAX;
         let totals = Totals {
-            pairs: most,
-            lone: 0,
+            tally: Tally {
+                pairs: most,
+                lone: 0,
+            },
             sent: most,
             turns: 9,
         };

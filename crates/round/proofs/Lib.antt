@@ -8,4 +8,5 @@ pub mod Handed
 pub mod Sent
 pub mod Ended
 pub mod Begun
+pub mod Opening
 pub mod Boards

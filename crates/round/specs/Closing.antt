@@ -16,6 +16,18 @@ pub data OpenRefused {K : Type 0} (t : Graph K) (rs : List Record) (m : List ℕ
   line_unfit : (waiting ≡ [] → entries t ≤ capacity → ⊥) → OpenRefused t rs m waiting capacity 11 0
   wrong_length : waiting ≡ [] → entries t ≤ capacity → (length rs ≡ parcels t → length m ≢ entries t) → OpenRefused t rs m waiting capacity 12 0
 
+-- this round can be opened: its sizes are the sheet's, both counts are 0, the tables have the sheet's lengths, and the line is empty, with room for the entries
+pub record Openable {K : Type 0} (t : Graph K) (w : World) : Type 0 where
+  pub parcel_count : w.parcel_count ≡ parcels t
+  pub entry_count : w.entry_count ≡ entries t
+  pub store_count : w.store_count ≡ t.limit
+  pub turns : w.turns ≡ 0
+  pub sent : w.sent ≡ 0
+  pub records_long : length w.records ≡ parcels t
+  pub marks_long : length w.marks ≡ entries t
+  pub empty : w.waiting ≡ []
+  pub room : entries t ≤ w.capacity
+
 -- parcel u is idle or waits
 abbrev pub Undecided : World → ℕ → Type 0
 Undecided w u = (state w.records u ≡ 0) ⊎ (state w.records u ≡ 1)
@@ -45,8 +57,8 @@ pub record Counts {K : Type 0} (t : Graph K) (rs : List Record) (x : Tally) : Ty
 -- close answers the pairs made, the lone parcels, the notes sent and the accepted turns
 pub record Closed {K : Type 0} (t : Graph K) (w : World) (x : Totals) : Type 0 where
   pub closable : Closable t w
-  pub pairs : x.pairs ≡ length (lower_pairs t w.records)
-  pub lone : x.lone ≡ lone_count t w.records
+  pub pairs : x.tally.pairs ≡ length (lower_pairs t w.records)
+  pub lone : x.tally.lone ≡ lone_count t w.records
   pub sent : x.sent ≡ w.sent
   pub turns : x.turns ≡ w.turns
 

@@ -1,4 +1,4 @@
-ghost use Rattle.std.specs.Prelude.{◌≡◌, ℕ, ◌+◌, ◌-◌, ◌<◌, ◌≤◌, true, not, ◌&&◌, List, ◌∷◌, ◌++◌, length, ◌==◌};
+ghost use Rattle.std.specs.Prelude.{◌≡◌, ◌+◌, ◌<◌, ◌≤◌, true, not, ◌&&◌, ◌∷◌, length, ◌==◌};
 ghost use Rattle.std.specs.List.Sorted.{IsPermutation};
 ghost use Rattle.sheet.specs.Graph.{InRow, parcels, entries, row_start, row_end};
 ghost use Rattle.sheet.specs.Held.{held};
@@ -46,8 +46,8 @@ pub(crate) enum Plan {
 }
 
 // The steps of a turn take the marks and the line one by one: a board would make each say that the records stay. What a step
-// asks of a row or of the marks it asks itself, since that is a fact about the sheet and the marks together. That a step
-// leaves the line's capacity is said beside what it does, for every kind of line.
+// asks of a row or of the marks it asks itself, since that is a fact about the sheet and the marks together. Each step that
+// sends notes promises in a clause of its own, `size`, that the line keeps its capacity.
 
 // The places of a parcel's row, said by their two ends.
 pub(crate) fn row<K: Copy>(sheet: &Sheet<K>, u: usize) -> Range<usize>

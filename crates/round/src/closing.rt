@@ -1,16 +1,15 @@
-ghost use Rattle.std.specs.Prelude.{◌≡◌, ℕ, ◌<◌, ◌≤◌, List, [], length, Some, None, Ok, Err, Decides, slice_index};
+ghost use Rattle.std.specs.Prelude.{◌≡◌, List, [], Ok, Err, Decides};
 ghost use Rattle.faults.specs.Numbers.{number};
 ghost use Rattle.records.specs.Right.{Right};
 ghost use Rattle.sheet.specs.Check.{Alike};
-ghost use Rattle.sheet.specs.Graph.{parcels};
 ghost use Rattle.sheet.specs.Held.{held};
 ghost use Rattle.protocol.specs.History.{Opened, Call, After};
 ghost use Rattle.protocol.specs.Law.{Law};
-ghost use Rattle.round.specs.Closing.{OpenRefused, CloseRefused, Closable, Counts, Closed, FirstUndecided};
-ghost use Rattle.round.specs.Seen.{world};
+ghost use Rattle.round.specs.Closing.{OpenRefused, Openable, CloseRefused, Closable, Counts, Closed, FirstUndecided};
+ghost use Rattle.round.specs.Seen.{world, seen, SameBoard};
 
 use crate::starting::fits_sheet;
-use crate::state::Round;
+use crate::state::{Board, Round};
 use faults::{Fault, Refusal};
 use line::Line;
 use ranking::Ranking;
@@ -24,7 +23,35 @@ fn is_empty<L: Line>(line: &L) -> bool
     line.free() == line.size()
 }
 
-// `open` and `close` take the tables and the line one by one, since they only read some of them: a board lends all to be written.
+// Refuses what `open` refuses, and else answers the round that it opens.
+fn try_open<K: Copy, L: Line>(
+    sheet: &Sheet<K>,
+    records: &[Record],
+    marks: &[u8],
+    line: &L,
+) -> Result<Round, Fault>
+    ensures { elim result [ Ok x ↦ Openable (held sheet.now) (world L.Line.waiting L.Line.capacity L.Line.chosen x records.now marks.now line.now) | Err f ↦ OpenRefused (held sheet.now) records.now marks.now (L.Line.waiting line.now) (L.Line.capacity line.now) (number f.0) f.1 ] }
+{
+    let tables = sheet.tables();
+    let parcels = tables.stores.len();
+    let entries = tables.others.len();
+    if !is_empty(line) || (line.size() as usize) < entries {
+        return Err((Refusal::LineUnfit, 0));
+    }
+    if records.len() != parcels || marks.len() != entries {
+        return Err((Refusal::WrongLength, 0));
+    }
+    Ok(Round {
+        parcels: parcels as u32,
+        entries: entries as u32,
+        stores: tables.store_count,
+        turns: 0,
+        sent: 0,
+    })
+}
+
+// `open` and `close` take the tables and the line one by one, since they only read some of them: a board lends all to be
+// written. Its own `open` and `close` are for those who hold one.
 
 /// Opens a round on a checked sheet: every parcel is idle, every mark clear, and both counts are 0.
 ///
@@ -38,27 +65,10 @@ pub fn open<K: Ranking, L: Line>(
 ) -> Result<Round, Fault>
     ensures { elim result [ Ok x ↦ Opened (held sheet.now) (world L.Line.waiting L.Line.capacity L.Line.chosen x records.new marks.new line.now) | Err f ↦ OpenRefused (held sheet.now) records.old marks.old (L.Line.waiting line.now) (L.Line.capacity line.now) (number f.0) f.1 × (records.new ≡ records.old) × (marks.new ≡ marks.old) ] }
 {
-    let tables = sheet.tables();
-    let parcels = tables.stores.len();
-    let entries = tables.others.len();
-    if !is_empty(line) {
-        return Err((Refusal::LineUnfit, 0));
-    }
-    if (line.size() as usize) < entries {
-        return Err((Refusal::LineUnfit, 0));
-    }
-    if records.len() != parcels || marks.len() != entries {
-        return Err((Refusal::WrongLength, 0));
-    }
+    let round = try_open(sheet, records, marks, line)?;
     clear_records(records);
     marks.fill(0);
-    Ok(Round {
-        parcels: parcels as u32,
-        entries: entries as u32,
-        stores: tables.store_count,
-        turns: 0,
-        sent: 0,
-    })
+    Ok(round)
 }
 
 // The lowest parcel that is idle or waits.
@@ -113,11 +123,50 @@ pub fn close<K: Ranking, L: Line>(
     let ledger = Ledger { sheet, records };
     match try_close(&round, ledger, marks, line) {
         Ok(tally) => Ok(Totals {
-            pairs: tally.pairs,
-            lone: tally.lone,
+            tally,
             sent: round.sent,
             turns: round.turns,
         }),
         Err(fault) => Err((round, fault)),
+    }
+}
+
+impl<L: Line> Board<'_, L> {
+    // The round that `open` opens, or why it refuses.
+    fn try_open<K: Copy>(&self, sheet: &Sheet<K>) -> Result<Round, Fault>
+        ensures { elim result [ Ok x ↦ Openable (held sheet.now) (seen L.Line.waiting L.Line.capacity L.Line.chosen x self.now) | Err f ↦ OpenRefused (held sheet.now) self.now.records.now self.now.marks.now (L.Line.waiting self.now.line.now) (L.Line.capacity self.now.line.now) (number f.0) f.1 ] }
+    {
+        try_open(sheet, self.records, self.marks, self.line)
+    }
+
+    /// Opens a round on a checked sheet, as the function `open` does, on what the board lends. The line stays as it is.
+    ///
+    /// Refuses, and then alters nothing, a line that is not empty or that holds fewer notes than the sheet has entries (11),
+    /// and records or marks that have not the sheet's lengths (12), both at 0.
+    pub fn open<K: Ranking>(&mut self, sheet: &Sheet<K>) -> Result<Round, Fault>
+        ensures opens { elim result [ Ok x ↦ Opened (held sheet.now) (seen L.Line.waiting L.Line.capacity L.Line.chosen x self.new) | Err f ↦ OpenRefused (held sheet.now) self.old.records.now self.old.marks.now (L.Line.waiting self.old.line.now) (L.Line.capacity self.old.line.now) (number f.0) f.1 × (self.new ≡ self.old) ] }
+        ensures line { self.new.line.now ≡ self.old.line.now }
+        ensures board { SameBoard self.old self.new }
+    {
+        let round = self.try_open(sheet)?;
+        clear_records(self.records);
+        self.marks.fill(0);
+        Ok(round)
+    }
+
+    /// Closes a settled round, as the function `close` does, on what the board lends.
+    ///
+    /// Refuses, and hands the round back: tables or a sheet of other sizes than the round's (12, at 0), the lowest parcel
+    /// whose record is out of range (16), and a round that is not settled (18, at the lowest parcel that is idle or waits,
+    /// or at the number of parcels where only notes wait).
+    pub fn close<K: Ranking>(
+        &self,
+        round: Round,
+        sheet: &Sheet<K>,
+    ) -> Result<Totals, (Round, Fault)>
+        ensures answer { elim result [ Ok x ↦ Closed (held sheet.now) (seen L.Line.waiting L.Line.capacity L.Line.chosen round self.now) x | Err f ↦ (f.0 ≡ round) × CloseRefused (held sheet.now) (seen L.Line.waiting L.Line.capacity L.Line.chosen round self.now) (number f.1.0) f.1.1 × (Closable (held sheet.now) (seen L.Line.waiting L.Line.capacity L.Line.chosen round self.now) → ⊥) ] }
+        ensures law { (calls : List Call) → Alike K.Ranking.atleast (held sheet.now) → After K.Ranking.atleast (held sheet.now) calls (seen L.Line.waiting L.Line.capacity L.Line.chosen round self.now) → Law K.Ranking.atleast (held sheet.now) (seen L.Line.waiting L.Line.capacity L.Line.chosen round self.now) }
+    {
+        close(round, sheet, self.records, self.marks, self.line)
     }
 }

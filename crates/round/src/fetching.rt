@@ -1,4 +1,4 @@
-ghost use Rattle.std.specs.Prelude.{◌≡◌, ℕ, ◌+◌, ◌<◌, true, false, ◌&&◌, ◌∷◌, length, Some, ◌==◌};
+ghost use Rattle.std.specs.Prelude.{◌≡◌, ◌+◌, ◌<◌, false, ◌&&◌, ◌∷◌, length, Some, ◌==◌};
 ghost use Rattle.std.specs.List.Sorted.{IsPermutation};
 ghost use Rattle.sheet.specs.Graph.{InRow, parcels, entries, row_start};
 ghost use Rattle.sheet.specs.Held.{held};

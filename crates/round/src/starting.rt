@@ -1,4 +1,4 @@
-ghost use Rattle.std.specs.Prelude.{◌≡◌, ℕ, Ok, Err};
+ghost use Rattle.std.specs.Prelude.{◌≡◌, Ok, Err};
 ghost use Rattle.faults.specs.Numbers.{number};
 ghost use Rattle.sheet.specs.Held.{held};
 ghost use Rattle.protocol.specs.Turns.{Start};

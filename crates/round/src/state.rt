@@ -46,6 +46,7 @@ impl<L> Board<'_, L> {
     {
         fits_sheet(round, sheet, self.records, self.marks)
     }
+
     // What parcel `u` does if it chooses now.
     pub(crate) fn plan<K: Ranking>(&self, sheet: &Sheet<K>, u: usize) -> Plan
         requires parcel { u < parcels (held sheet.now) }

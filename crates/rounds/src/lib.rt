@@ -1,11 +1,11 @@
 //! Runs of a round: turn after turn until nothing is left to do, and a call that settles a round.
 #![tactic(auto)]
 
-ghost use Rattle.std.specs.Prelude.{◌≡◌, ℕ, ◌<◌, ◌≤◌, [], length};
+ghost use Rattle.std.specs.Prelude.{◌≡◌, ◌≤◌, length};
 ghost use Rattle.sheet.specs.Graph.{parcels};
 ghost use Rattle.sheet.specs.Held.{held};
 ghost use Rattle.protocol.specs.Runs.{Ran};
-ghost use Rattle.round.specs.Seen.{world, seen, SameBoard};
+ghost use Rattle.round.specs.Seen.{seen, SameBoard};
 ghost use Rattle.sheet.specs.Check.{Alike};
 ghost use Rattle.round.specs.Closing.{OpenRefused};
 ghost use Rattle.rounds.specs.Settling.{Ready, Settling, SettlesOrUnopened, DoesNotRefuse};
@@ -16,7 +16,7 @@ use line::Line;
 use protocol::Ending;
 use ranking::Ranking;
 use records::{Ledger, Record, State, Totals};
-use round::{Board, Round, close, fetch, open, start};
+use round::{Board, Round, fetch, start};
 use sheet::Sheet;
 
 /// A turn of a run.
@@ -104,41 +104,20 @@ pub fn run<K: Ranking, L: Line>(
     }
 }
 
-// Runs a round for as many turns as may be, on a board made here: `settle` has lent the tables to `open` before, and a board
-// made after such a loan in one body gets no proof.
-fn run_out<K: Ranking, L: Line>(
-    round: &mut Round,
-    sheet: &Sheet<K>,
-    records: &mut [Record],
-    marks: &mut [u8],
-    line: &mut L,
-) -> (u32, Ending)
-    ensures { Ran K.Ranking.atleast (held sheet.now) 4294967295 (world L.Line.waiting L.Line.capacity L.Line.chosen round.old records.old marks.old line.old) result.0 result.1 (world L.Line.waiting L.Line.capacity L.Line.chosen round.new records.new marks.new line.new) }
-{
-    let mut board = Board {
-        records,
-        marks,
-        line,
-    };
-    run(round, sheet, &mut board, u32::MAX)
-}
-
-/// Settles a round: opens it, runs it until it is still, and closes it. The tables and the line come one by one, as for
-/// `open`.
+/// Settles a round on a board: opens it, runs it until it is still, and closes it.
 ///
 /// Refuses what `open` refuses, and then alters nothing. On a sheet whose two sides rank alike it refuses nothing else:
 /// the round ends settled, and the records hold the greedy pairing entire.
 pub fn settle<K: Ranking, L: Line>(
     sheet: &Sheet<K>,
-    records: &mut [Record],
-    marks: &mut [u8],
-    line: &mut L,
+    board: &mut Board<'_, L>,
 ) -> Result<Totals, Fault>
-    ensures did { Settling K.Ranking.atleast (held sheet.now) (λ x. world L.Line.waiting L.Line.capacity L.Line.chosen x records.new marks.new line.new) (λ k p. OpenRefused (held sheet.now) records.old marks.old (L.Line.waiting line.old) (L.Line.capacity line.old) k p × (records.new ≡ records.old) × (marks.new ≡ marks.old) × (line.new ≡ line.old)) result }
-    ensures settles { Alike K.Ranking.atleast (held sheet.now) → SettlesOrUnopened K.Ranking.atleast (held sheet.now) (λ x. world L.Line.waiting L.Line.capacity L.Line.chosen x records.new marks.new line.new) (λ k p. OpenRefused (held sheet.now) records.old marks.old (L.Line.waiting line.old) (L.Line.capacity line.old) k p × (records.new ≡ records.old) × (marks.new ≡ marks.old) × (line.new ≡ line.old)) result }
-    ensures ready { Alike K.Ranking.atleast (held sheet.now) → Ready (held sheet.now) records.old marks.old (L.Line.waiting line.old) (L.Line.capacity line.old) → DoesNotRefuse result }
+    ensures did { Settling K.Ranking.atleast (held sheet.now) (λ x. seen L.Line.waiting L.Line.capacity L.Line.chosen x board.new) (λ k p. OpenRefused (held sheet.now) board.old.records.now board.old.marks.now (L.Line.waiting board.old.line.now) (L.Line.capacity board.old.line.now) k p × (board.new ≡ board.old)) result }
+    ensures settles { Alike K.Ranking.atleast (held sheet.now) → SettlesOrUnopened K.Ranking.atleast (held sheet.now) (λ x. seen L.Line.waiting L.Line.capacity L.Line.chosen x board.new) (λ k p. OpenRefused (held sheet.now) board.old.records.now board.old.marks.now (L.Line.waiting board.old.line.now) (L.Line.capacity board.old.line.now) k p × (board.new ≡ board.old)) result }
+    ensures ready { Alike K.Ranking.atleast (held sheet.now) → Ready (held sheet.now) board.old.records.now board.old.marks.now (L.Line.waiting board.old.line.now) (L.Line.capacity board.old.line.now) → DoesNotRefuse result }
+    ensures board { SameBoard board.old board.new }
 {
-    let mut round = open(sheet, records, marks, line)?;
-    let _ = run_out(&mut round, sheet, records, marks, line);
-    close(round, sheet, records, marks, line).map_err(|(_, fault)| fault)
+    let mut round = board.open(sheet)?;
+    let _ = run(&mut round, sheet, board, u32::MAX);
+    board.close(round, sheet).map_err(|(_, fault)| fault)
 }

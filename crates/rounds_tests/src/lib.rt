@@ -9,7 +9,7 @@ mod tests {
     use outright::pair_outright;
     use protocol::Ending;
     use ranking::Cents;
-    use records::{Record, Totals};
+    use records::{Record, Tally, Totals};
     use round::{Board, close, fetch, open, start};
     use rounds::{run, settle};
     use sheet::{Sheet, Tables, check as check_sheet};
@@ -88,10 +88,12 @@ mod tests {
         let mut marks = [0; 6];
         let mut slots = [BLANK; 6];
         let mut line = Queue::new(&mut slots, 5);
-        assert_eq!(rt;
-            settle(&sheet, &mut records, &mut marks, &mut line).is_ok(),
-            false
-        );
+        let mut board = Board {
+            records: &mut records,
+            marks: &mut marks,
+            line: &mut line,
+        };
+        assert!(rt; settle(&sheet, &mut board).is_err());
         assert!(rt; records[0] == ODD);
         let mut more = [BLANK; 6];
         let mut full = Pigeonholes::new(&mut more, 6);
@@ -119,10 +121,14 @@ mod tests {
         let mut marks = [0; 6];
         let mut slots = [BLANK; 6];
         let mut queue = Queue::new(&mut slots, 6);
-        let totals = settle(&sheet, &mut by_queue, &mut marks, &mut queue)?;
+        let mut board = Board {
+            records: &mut by_queue,
+            marks: &mut marks,
+            line: &mut queue,
+        };
+        let totals = settle(&sheet, &mut board)?;
         let expected = Totals {
-            pairs: 1,
-            lone: 2,
+            tally: Tally { pairs: 1, lone: 2 },
             sent: 6,
             turns: 10,
         };
@@ -130,7 +136,12 @@ mod tests {
         let mut by_holes = [ODD; 4];
         let mut more = [BLANK; 6];
         let mut holes = Pigeonholes::new(&mut more, 6);
-        let _ = settle(&sheet, &mut by_holes, &mut marks, &mut holes)?;
+        let mut board = Board {
+            records: &mut by_holes,
+            marks: &mut marks,
+            line: &mut holes,
+        };
+        let _ = settle(&sheet, &mut board)?;
         let mut outright = [ODD; 4];
         let mut worklist = [0; 4];
         pair_outright(&sheet, &mut outright, &mut worklist)?;
@@ -183,10 +194,14 @@ mod tests {
     fn nothing_to_pair(rt: HostRuntime) -> Result<(), Fail> {
         let sheet: Sheet<Cents> = Sheet::empty();
         let mut line = Queue::new(&mut [], 0);
-        let totals = settle(&sheet, &mut [], &mut [], &mut line)?;
+        let mut board = Board {
+            records: &mut [],
+            marks: &mut [],
+            line: &mut line,
+        };
+        let totals = settle(&sheet, &mut board)?;
         let expected = Totals {
-            pairs: 0,
-            lone: 0,
+            tally: Tally { pairs: 0, lone: 0 },
             sent: 0,
             turns: 0,
         };

@@ -1,5 +1,5 @@
 -- Every refusal has a number, and equal answers equal ones. Assumes nothing.
-use Rattle.std.proofs.Common.{◌≡◌, ℕ, ◌<◌, Err, Ok, Result, ap, arith}
+use Rattle.std.proofs.Common.{◌≡◌, ℕ, Err, Ok, Result, ap}
 use Rattle.faults.specs.declared.Refusal.{Refusal}
 use Rattle.faults.specs.Numbers.{number}
 use Rattle.reading.specs.declared.Sizes.{Sizes}

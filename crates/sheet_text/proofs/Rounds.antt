@@ -3,9 +3,11 @@ use Rattle.std.proofs.Common.{◌≡◌, ℕ, ◌<◌, List, length, Ok, Err, Re
 use Rattle.faults.specs.declared.Refusal.{Refusal}
 use Rattle.faults.specs.Numbers.{number}
 use Rattle.ranking.specs.declared.Cents.{Cents}
+use Rattle.ranking.specs.Kinds.{cents_atleast}
 use Rattle.reading.specs.Listing.{Listing}
 use Rattle.reading.specs.Outcome.{laid}
 use Rattle.sheet.specs.Graph.{Graph}
+use Rattle.line.specs.declared.Note.{Note}
 use Rattle.records.specs.declared.record.Record.{Record}
 use Rattle.records.specs.declared.ledger.Totals.{Totals}
 use Rattle.records.specs.Right.{Right}
@@ -13,7 +15,9 @@ use Rattle.records.specs.Listed.{lower_pairs}
 use Rattle.records.proofs.Refusals.{refused_not_right}
 use Rattle.protocol.specs.World.{World}
 use Rattle.protocol.proofs.Holds.{fits_facts}
-use Rattle.round.specs.Closing.{Closed}
+use Rattle.round.specs.Closing.{OpenRefused, Closed}
+use Rattle.round.specs.declared.state.Round.{Round}
+use Rattle.rounds.specs.Settling.{Settles, Settling, SettlesOrUnopened, DoesNotRefuse}
 use Rattle.results.specs.Text.{result_text, Printed, TextRefused, by_records, short}
 use Rattle.sheet_text.specs.Checking.{sheet_of, Checks}
 use Rattle.sheet_text.specs.Pairing.{Memory, Enough, Settled, Unpaired, by_out, Pairing, SettlesAndPrints}
@@ -29,6 +33,20 @@ same_end {t} v w records marks waiting capacity next a b =
     let turns = sym a.turns ∙ b.turns in
     let sent = sym a.sent ∙ b.sent in
     λ i. record { parcel_count = parcel_count i; entry_count = entry_count i; store_count = store_count i; turns = turns i; sent = sent i; records = records i; marks = marks i; waiting = waiting i; capacity = capacity i; next = next i }
+
+-- settling a round answers its totals, where it does not refuse; and these are its records and marks
+module _ (t : Graph Cents) {B : Type 0} (see : Round → World) (was-rs : List Record) (was-ms : List ℕ) (was-waiting : List Note) (was-capacity : ℕ) (was is : B) (rs : List Record) (ms : List ℕ) (recorded : (x : Round) → (see x).records ≡ rs) (marked : (x : Round) → (see x).marks ≡ ms) (one-line : (x y : Round) → ((see x).waiting ≡ (see y).waiting) × ((see x).capacity ≡ (see y).capacity) × ((see x).next ≡ (see y).next)) where
+  abbrev Unopened : ℕ → ℕ → Type 0
+  Unopened k p = OpenRefused t was-rs was-ms was-waiting was-capacity k p × (is ≡ was)
+
+  pub settled_over : (r : Result Totals (Refusal × ℕ)) → Settling cents_atleast t see Unopened r → SettlesOrUnopened cents_atleast t see Unopened r → DoesNotRefuse r → elim r as (λ _. Type 0) [ Ok x ↦ Settled t rs ms x | Err _ ↦ ⊥ ]
+  settled_over (Ok x) did settles _ =
+      let v = settles.0 in
+      let w = did.0.round in
+      let line = one-line v w in
+      let same = same_end (see v) (see w) (recorded v ∙ sym (recorded w)) (marked v ∙ sym (marked w)) line.0 line.1 line.2 settles.1.closed did.1 in
+      record { end = see w; came = did.0.came; settles = subst (λ u. Settles cents_atleast t u x) same settles.1; recorded = recorded w; marked = marked w }
+  settled_over (Err _) _ _ none = none
 
 -- records that are right are not refused, so that only a short buffer is
 only_short : {t : Graph Cents} {rs : List Record} {x : Totals} {room k p : ℕ} → Right t rs → TextRefused t rs x room k p → (k ≡ 3) × (p ≡ 0) × (room < length (result_text x (lower_pairs t rs)))

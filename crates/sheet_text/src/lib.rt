@@ -1,7 +1,7 @@
 //! From the text of a cents sheet to its pairing, in memory that the caller lends.
 #![tactic(auto)]
 
-ghost use Rattle.std.specs.Prelude.{◌≡◌, ◌≤◌, [], length, Decides};
+ghost use Rattle.std.specs.Prelude.{◌≡◌, ◌≤◌, [], length, Ok, Err, Decides};
 ghost use Rattle.ranking.specs.Kinds.{cents_atleast};
 ghost use Rattle.reading.specs.Outcome.{lent, SameSlices, Room};
 ghost use Rattle.sheet.specs.Graph.{parcels, entries};
@@ -9,7 +9,7 @@ ghost use Rattle.sheet.specs.Check.{Alike};
 ghost use Rattle.sheet.specs.View.{graph};
 ghost use Rattle.sheet.specs.Held.{held};
 ghost use Rattle.sheet_text.specs.Checking.{first_places, Checking};
-ghost use Rattle.sheet_text.specs.Pairing.{Enough, Pairing, SettlesAndPrints};
+ghost use Rattle.sheet_text.specs.Pairing.{Enough, Settled, Pairing, SettlesAndPrints};
 ghost use Rattle.sheet_text.specs.Lent.{lent_memory, SameMemory};
 
 use chains::Slot;
@@ -20,9 +20,10 @@ use lines::Queue;
 pub use ranking::Cents;
 pub use reading::TablesMut;
 use reading::{Sizes, read};
-use records::Ledger;
 pub use records::Record;
+use records::{Ledger, Totals};
 use results::result_text;
+use round::Board;
 use rounds::settle;
 use sheet::{Sheet, Tables, check};
 
@@ -107,7 +108,30 @@ pub fn check_text(text: &[u8], tables: &mut TablesMut<'_, Cents>) -> Result<Size
     Ok(sizes)
 }
 
-// Settles a round of the sheet over a queue, and writes the result text to the front of `out`.
+// Settles a round of the sheet over a queue. It is apart from the printing, which reads the records after they were lent to a
+// board: both in one body get no proof.
+fn settle_over_queue(
+    sheet: &Sheet<Cents>,
+    records: &mut [Record],
+    marks: &mut [u8],
+    slots: &mut [Slot],
+) -> Result<Totals, Fault>
+    requires alike { Alike cents_atleast (held sheet.now) }
+    requires records_long { length records.old ≡ parcels (held sheet.now) }
+    requires marks_long { length marks.old ≡ entries (held sheet.now) }
+    requires slots_enough { entries (held sheet.now) ≤ length slots.old }
+    ensures { elim result [ Ok x ↦ Settled (held sheet.now) records.new marks.new x | Err _ ↦ ⊥ ] }
+{
+    let line = &mut Queue::new(slots, MAX_NOTES);
+    let mut board = Board {
+        records,
+        marks,
+        line,
+    };
+    settle(sheet, &mut board)
+}
+
+// Settles a round of the sheet, and writes the result text to the front of `out`.
 fn settle_sheet(
     sheet: &Sheet<Cents>,
     records: &mut [Record],
@@ -121,8 +145,7 @@ fn settle_sheet(
     requires slots_enough { entries (held sheet.now) ≤ length slots.old }
     ensures { SettlesAndPrints (held sheet.now) records.new marks.new out.old result out.new }
 {
-    let mut queue = Queue::new(slots, MAX_NOTES);
-    let totals = settle(sheet, records, marks, &mut queue)?;
+    let totals = settle_over_queue(sheet, records, marks, slots)?;
     result_text(Ledger { sheet, records }, totals, out)
 }
 

@@ -30,7 +30,7 @@ reading_of (Ok z) = record { number = 0; place = 0; parcels = z.parcels; entries
 reading_of (Err f) = record { number = number f.0; place = f.1; parcels = 0; entries = 0; stores = 0 }
 
 abbrev pub outcome_of : Result Totals (Refusal × ℕ) → Outcome
-outcome_of (Ok x) = record { number = 0; place = 0; pairs = x.pairs; lone = x.lone; sent = x.sent; turns = x.turns }
+outcome_of (Ok x) = record { number = 0; place = 0; pairs = x.tally.pairs; lone = x.tally.lone; sent = x.sent; turns = x.turns }
 outcome_of (Err f) = record { number = number f.0; place = f.1; pairs = 0; lone = 0; sent = 0; turns = 0 }
 
 -- the answer is that of a result of which this is true
@@ -70,7 +70,7 @@ pub record RoundOf (t : Graph Cents) (x : Totals) (rs : List Record) (m : List �
   pub entire : Entire t rs (greedy_pairing cents_atleast t)
 
 abbrev pub no_totals : Totals
-no_totals = record { pairs = 0; lone = 0; sent = 0; turns = 0 }
+no_totals = record { tally = record { pairs = 0; lone = 0 }; sent = 0; turns = 0 }
 
 -- rounds over a line, so many one after the other: the totals are those of the last, only the opening of the first can refuse, and that alters nothing
 module _ (t : Graph Cents) (repeat : ℕ) (waiting : List Note) (capacity : ℕ) (rs : List Record) (m : List ℕ) where

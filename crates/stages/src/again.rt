@@ -1,8 +1,10 @@
-ghost use Rattle.std.specs.Prelude.{◌≡◌, min, [], length};
+//! The functions that C calls take tables one by one, as C lends them.
+ghost use Rattle.std.specs.Prelude.{min, [], length};
 ghost use Rattle.ranking.specs.Kinds.{cents_atleast};
 ghost use Rattle.sheet.specs.Check.{Alike};
 ghost use Rattle.sheet.specs.Held.{held};
 ghost use Rattle.sheet.specs.View.{graph};
+ghost use Rattle.round.specs.Seen.{SameBoard};
 ghost use Rattle.stages.specs.Answers.{verdict_of, outcome_of, Answers, listed, Paired, CheckedPaired, Settled, CheckedSettled};
 
 use crate::answers::{Outcome, Verdict};
@@ -13,6 +15,7 @@ use lines::{Pigeonholes, Queue};
 use outright::pair_outright;
 use ranking::Cents;
 use records::{Record, Totals};
+use round::Board;
 use rounds::settle;
 use sheet::{Sheet, Tables, check};
 
@@ -74,17 +77,16 @@ pub extern "C" fn stages_pair_outright<'a>(
 // Settles so many rounds over the line, one after the other.
 fn settle_again<L: Line>(
     sheet: &Sheet<Cents>,
-    records: &mut [Record],
-    marks: &mut [u8],
-    line: &mut L,
+    board: &mut Board<'_, L>,
     repeat: u32,
 ) -> Result<Totals, Fault>
     requires { Alike cents_atleast (held sheet.now) }
-    ensures { Settled (held sheet.now) repeat (L.Line.waiting line.old) (L.Line.capacity line.old) records.old marks.old result records.new marks.new }
+    ensures settled { Settled (held sheet.now) repeat (L.Line.waiting board.old.line.now) (L.Line.capacity board.old.line.now) board.old.records.now board.old.marks.now result board.new.records.now board.new.marks.now }
+    ensures board { SameBoard board.old board.new }
 {
     let mut totals = Totals::default();
     for _ in 0..repeat {
-        totals = settle(sheet, records, marks, line)?;
+        totals = settle(sheet, board)?;
     }
     Ok(totals)
 }
@@ -92,19 +94,18 @@ fn settle_again<L: Line>(
 // Checks the tables and settles rounds of their sheet.
 fn check_and_settle<L: Line>(
     tables: Tables<Cents>,
-    records: &mut [Record],
-    marks: &mut [u8],
-    line: &mut L,
+    board: &mut Board<'_, L>,
     repeat: u32,
 ) -> Result<Totals, Fault>
-    ensures { CheckedSettled (graph tables.entry) repeat (L.Line.waiting line.old) (L.Line.capacity line.old) records.old marks.old result records.new marks.new }
+    ensures settled { CheckedSettled (graph tables.entry) repeat (L.Line.waiting board.old.line.now) (L.Line.capacity board.old.line.now) board.old.records.now board.old.marks.now result board.new.records.now board.new.marks.now }
+    ensures board { SameBoard board.old board.new }
 {
     let mut sheet = Sheet::empty();
     check(&mut sheet, tables)?;
-    settle_again(&sheet, records, marks, line, repeat)
+    settle_again(&sheet, board, repeat)
 }
 
-// One function for each kind of line, since C has no type parameters, and tables one by one, as C lends them.
+// One function for each kind of line, since C has no type parameters.
 
 /// Checks the tables, and then settles rounds of their sheet over one queue, so many one after the other. The queue has
 /// the named capacity, or 16,384 or the buffer's length if either is less.
@@ -132,8 +133,13 @@ pub extern "C" fn stages_settle_queue<'a>(
         editions,
         store_count,
     };
-    let mut queue = Queue::new(slots, capacity);
-    Outcome::from(check_and_settle(tables, records, marks, &mut queue, repeat))
+    let line = &mut Queue::new(slots, capacity);
+    let mut board = Board {
+        records,
+        marks,
+        line,
+    };
+    Outcome::from(check_and_settle(tables, &mut board, repeat))
 }
 
 /// Checks the tables, and then settles rounds of their sheet over the same pigeonholes, so many one after the other. The
@@ -162,6 +168,11 @@ pub extern "C" fn stages_settle_pigeonholes<'a>(
         editions,
         store_count,
     };
-    let mut holes = Pigeonholes::new(slots, capacity);
-    Outcome::from(check_and_settle(tables, records, marks, &mut holes, repeat))
+    let line = &mut Pigeonholes::new(slots, capacity);
+    let mut board = Board {
+        records,
+        marks,
+        line,
+    };
+    Outcome::from(check_and_settle(tables, &mut board, repeat))
 }

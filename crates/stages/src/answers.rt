@@ -81,8 +81,8 @@ impl From<Result<Totals, Fault>> for Outcome {
     fn from(answer: Result<Totals, Fault>) -> Outcome {
         match answer {
             Ok(totals) => Outcome {
-                pairs: totals.pairs,
-                lone: totals.lone,
+                pairs: totals.tally.pairs,
+                lone: totals.tally.lone,
                 sent: totals.sent,
                 turns: totals.turns,
                 ..Outcome::default()

@@ -1,3 +1,4 @@
+//! The functions that C calls take tables one by one, as C lends them.
 ghost use Rattle.ranking.specs.Kinds.{cents_key};
 ghost use Rattle.reading.specs.Outcome.{tables as lent, Read};
 ghost use Rattle.stages.specs.Answers.{verdict_of, reading_of, Answers, listed, Checked};
