@@ -53,13 +53,10 @@ impl<K: Copy> Ledger<'_, K> {
         requires long { length self.records.now ≡ parcels (held self.sheet.now) }
         ensures { result ≡ astray (held self.entry.sheet.now) self.entry.records.now u }
     {
-        let starts = self.sheet.tables().starts;
         let record = self.records[u];
         match State::try_from(record.state) {
             Ok(State::Idle | State::Lone) => false,
-            Ok(State::Waits | State::Paired) => {
-                starts[u] as usize + record.choice as usize >= starts[u + 1] as usize
-            }
+            Ok(State::Waits | State::Paired) => self.sheet.place(u, record.choice).is_none(),
             Err(_) => true,
         }
     }
@@ -104,18 +101,10 @@ impl<K: Copy> Ledger<'_, K> {
     pub fn partner_above(self, u: u32) -> Option<u32>
         ensures { result ≡ partner_above (held self.entry.sheet.now) self.entry.records.now u }
     {
-        let tables = self.sheet.tables();
-        let at = u as usize;
-        if at >= tables.stores.len() || at >= self.records.len() {
-            return None;
-        }
-        let record = self.records[at];
-        let place = tables.starts[at] as usize + record.choice as usize;
-        if !record.is(State::Paired) || place >= tables.starts[at + 1] as usize {
-            return None;
-        }
-        let other = tables.others[place];
-        if u < other { Some(other) } else { None }
+        let record = self.records.get(u as usize)?;
+        let place = self.sheet.place(u as usize, record.choice)?;
+        let other = self.sheet.tables().others[place];
+        (record.is(State::Paired) && u < other).then_some(other)
     }
 
     // Whether parcel `u` records a pair with a higher-numbered one.

@@ -16,10 +16,11 @@ fn cents_of(ledger: Ledger<'_, Cents>, u: u32) -> u32
     if ledger.partner_above(u).is_none() {
         return 0;
     }
-    let tables = ledger.sheet.tables();
     let at = u as usize;
-    let place = tables.starts[at] as usize + ledger.records[at].choice as usize;
-    tables.keys[place].0
+    match ledger.sheet.place(at, ledger.records[at].choice) {
+        Some(place) => ledger.sheet.tables().keys[place].0,
+        None => 0,
+    }
 }
 
 /// What the recorded pairs are worth: the cents of each once, at the entry that its lower parcel chose.

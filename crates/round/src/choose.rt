@@ -50,7 +50,7 @@ pub(crate) enum Plan {
 // sends notes promises in a clause of its own, `size`, that the line keeps its capacity.
 
 // The places of a parcel's row, said by their two ends.
-pub(crate) fn row<K: Copy>(sheet: &Sheet<K>, u: usize) -> Range<usize>
+fn row<K: Copy>(sheet: &Sheet<K>, u: usize) -> Range<usize>
     requires { u < parcels (held sheet.now) }
     ensures { (result.start ≡ row_start (held sheet.now) u) × (result.end ≡ row_end (held sheet.now) u) }
 {

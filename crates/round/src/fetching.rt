@@ -1,6 +1,6 @@
-ghost use Rattle.std.specs.Prelude.{◌≡◌, ◌+◌, ◌<◌, false, ◌&&◌, ◌∷◌, length, Some, ◌==◌};
+ghost use Rattle.std.specs.Prelude.{◌≡◌, ◌+◌, false, ◌&&◌, ◌∷◌, length, Some, ◌==◌};
 ghost use Rattle.std.specs.List.Sorted.{IsPermutation};
-ghost use Rattle.sheet.specs.Graph.{InRow, parcels, entries, row_start};
+ghost use Rattle.sheet.specs.Graph.{InRow, entries, row_start};
 ghost use Rattle.sheet.specs.Held.{held};
 ghost use Rattle.line.specs.Kinds.{code};
 ghost use Rattle.protocol.specs.Steps.{entry_of};
@@ -9,7 +9,7 @@ ghost use Rattle.round.specs.Parts.{ComesTo, Received};
 ghost use Rattle.round.specs.Seen.{seen, SameBoard};
 
 use crate::choose::{
-    BIDDEN, STRUCK, carry_out, count_open_others, let_go, plan_choice, row, with_choice,
+    BIDDEN, STRUCK, carry_out, count_open_others, let_go, plan_choice, with_choice,
 };
 use crate::state::{Board, Round};
 use faults::{Fault, Refusal};
@@ -32,12 +32,12 @@ fn entry_for<K: Ranking>(sheet: &Sheet<K>, store: u32, note: Note) -> Option<(Ki
     Some((kind, at))
 }
 
-// Whether parcel `a`, which has this record, waits with the entry at place `at` as its choice.
+// Whether parcel `a`, which has this record, waits with the entry at place `at` of its row as its choice.
 fn awaits<K: Copy>(sheet: &Sheet<K>, a: usize, at: usize, was: Record) -> bool
-    requires { a < parcels (held sheet.now) }
+    requires { InRow (held sheet.now) a at }
     ensures { result ≡ (was.state == 1 && row_start (held sheet.now) a + was.choice == at) }
 {
-    was.is(State::Waits) && row(sheet, a).start + was.choice as usize == at
+    was.is(State::Waits) && sheet.place(a, was.choice) == Some(at)
 }
 
 // Takes the note that the line hands its store.
