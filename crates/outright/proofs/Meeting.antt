@@ -1,9 +1,8 @@
 -- What may be read and written when a parcel settles. Assumes nothing.
 use Rattle.std.proofs.Common.{◌≡◌, ℕ, ◌+◌, ◌<◌, ◌≤◌, Bool, List, length, inl, arith}
-use Rattle.sheet.specs.Graph.{Graph, parcels, entries, other}
+use Rattle.sheet.specs.Graph.{Graph, parcels, InRow, other}
 use Rattle.sheet.specs.Check.{Sound}
-use Rattle.sheet.proofs.Facts.{fitted_facts}
-use Rattle.pairing.proofs.Entries.{other_below, other_not_own, place_below}
+use Rattle.pairing.proofs.Entries.{other_below, other_not_own}
 use Rattle.choosing.specs.Top.{Top}
 use Rattle.records.specs.Records.{state, chosen_place}
 use Rattle.records.specs.declared.record.Record.{Record}
@@ -11,17 +10,15 @@ use Rattle.outright.specs.Pointing.{free, Kept}
 use Rattle.outright.specs.Settling.{Ready}
 use Rattle.outright.proofs.Advancing.{room}
 
--- w has a record and a row, and waits within its row
+-- w has a record, and waits within its row
 pub record Reach {K : Type 0} (t : Graph K) (rs : List Record) (w : ℕ) : Type 0 where
   pub its : w < length rs
-  pub row : w < length t.starts
-  pub place : state rs w ≡ 1 → chosen_place t rs w < entries t
+  pub place : state rs w ≡ 1 → InRow t w (chosen_place t rs w)
 
 pub reach : {K : Type 0} (atleast : K → K → Bool) (t : Graph K) (sound : Sound t) (rs : List Record) (w : ℕ) → Kept atleast t rs → w < parcels t → Reach t rs w
 reach atleast t sound rs w kept less = record {
   its = omega (arith, kept.long);
-  row = omega (arith, (fitted_facts t sound.fitted_right).starts_long);
-  place = λ one. place_below t sound w (chosen_place t rs w) (kept.best w less (inl one)).within;
+  place = λ one. (kept.best w less (inl one)).within;
 }
 
 -- v may be paired with the parcel at its best free entry: it is within reach, and there is room to list both

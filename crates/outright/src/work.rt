@@ -1,5 +1,5 @@
 ghost use Rattle.std.specs.Prelude.{◌≡◌, ℕ, ◌+◌, ◌<◌, ◌≤◌, ◌&&◌, length, set, ◌==◌, ◌≢◌};
-ghost use Rattle.sheet.specs.Graph.{parcels, entries};
+ghost use Rattle.sheet.specs.Graph.{InRow, parcels};
 ghost use Rattle.sheet.specs.Held.{held};
 ghost use Rattle.choosing.specs.Top.{Choice};
 ghost use Rattle.records.specs.Records.{state, choice as choice_of, chosen_place, chosen};
@@ -75,14 +75,17 @@ impl Work<'_> {
     // Whether parcel `w` waits at parcel `v`.
     fn waits_at<K: Copy>(&self, sheet: &Sheet<K>, w: usize, v: usize) -> bool
         requires its { w < length self.now.records.now }
-        requires row { w < length (held sheet.now).starts }
-        requires place { state self.now.records.now w ≡ 1 → chosen_place (held sheet.now) self.now.records.now w < entries (held sheet.now) }
+        requires place { state self.now.records.now w ≡ 1 → InRow (held sheet.now) w (chosen_place (held sheet.now) self.now.records.now w) }
         ensures { result ≡ (state self.now.records.now w == 1 && chosen (held sheet.now) self.now.records.now w == v) }
     {
-        let t = sheet.tables();
         let record = self.records[w];
-        record.is(State::Waits)
-            && t.others[t.starts[w] as usize + record.choice as usize] as usize == v
+        if !record.is(State::Waits) {
+            return false;
+        }
+        let Some(place) = sheet.place(w, record.choice) else {
+            return false;
+        };
+        sheet.tables().others[place] as usize == v
     }
 
     // Pairs parcel `v`, at this choice, with parcel `w`, at the choice that it waits with, and lists both.

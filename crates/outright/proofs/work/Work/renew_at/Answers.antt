@@ -30,7 +30,7 @@ waits_at-requires g c =
     let rs = c.loop-v.self.records.now in
     let n = neighbour sheet c.tables-tables.result c.tables-tables.ensures c.args.u c.requires.parcel c.row.result c.row.ensures c.loop-v.v-index c.loop-v-test.true in
     let r = subst (Reach t rs) (sym n.is) (reach g.K.Ranking.atleast t sound rs (other t (row_start t c.args.u + c.loop-v.v-index)) c.loop-v.invariant.1.ready.kept (other_below t sound c.args.u (row_start t c.args.u + c.loop-v.v-index) n.here)) in
-    record { its = r.its; row = r.row; place = r.place }
+    record { its = r.its; place = r.place }
 
 pub loop-v-preserved : goal.loop-v-preserved
 loop-v-preserved g c =

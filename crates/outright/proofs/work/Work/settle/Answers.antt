@@ -14,7 +14,7 @@ waits_at-requires g c =
     let sheet = c.args.sheet.now in
     let w = c.args.self.now in
     let m = meeting g.K.Ranking.atleast (held sheet) (held_sound sheet) w.records.now w.worklist.now w.listed c.args.v c.in-Some.p c.requires.ready c.requires.unpaired c.in-Some.ensures in
-    rw c.tables-tables.ensures (record { its = m.reached.its; row = m.reached.row; place = m.reached.place })
+    rw c.tables-tables.ensures (record { its = m.reached.its; place = m.reached.place })
 
 pub pair-requires-clause-room : goal.pair-requires-clause-room
 pair-requires-clause-room g c =
