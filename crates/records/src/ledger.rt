@@ -28,7 +28,7 @@ pub struct Tally {
     pub lone: u32,
 }
 
-/// What the close of a round answers: what its records come to, and what it took to get there.
+/// What the close of a round answers: how many pairs and lone parcels its records hold, and how many notes and turns it took.
 #[derive(Clone, Copy, Debug, Default, PartialEq, Eq)]
 pub struct Totals {
     /// The pairs and the lone parcels.

@@ -108,8 +108,8 @@ pub fn check_text(text: &[u8], tables: &mut TablesMut<'_, Cents>) -> Result<Size
     Ok(sizes)
 }
 
-// Settles a round of the sheet over a queue. It is apart from the printing, which reads the records after they were lent to a
-// board: both in one body get no proof.
+// Settles a round of the sheet over a queue. It is apart from the printing, since a body that lends the sheet to a call with a
+// board and then to a ledger gets no proof.
 fn settle_over_queue(
     sheet: &Sheet<Cents>,
     records: &mut [Record],
