@@ -33,7 +33,8 @@ pub enum End {
 pub struct Pool<'a> {
     /// The places, as many as the capacity says.
     pub slots: &'a mut [Slot],
-    // two tables rather than one of pairs: most moves, and the theory, need the first places alone
+    // The tables hold numbers, and no `Option`s, as links do, whose layout is C's: a place goes from a link to a table, or back,
+    // as it is. They are two and not one of pairs, since most moves, and the theory, need the first places alone.
     /// The first place of each chain; a number from the capacity up is no place.
     pub heads: [u32; CHAINS],
     /// The last place of each chain that has one.

@@ -2,7 +2,7 @@
 //! capacity that never changes; docs/LINES.md has the rules in full.
 #![tactic(auto)]
 
-ghost use Rattle.std.specs.Prelude.{◌≡◌, ℕ, ◌-◌, List, [], ◌∷◌, length, Option};
+ghost use Rattle.std.specs.Prelude.{◌≡◌, ℕ, ◌-◌, List, length, Option};
 ghost use Rattle.line.specs.declared.Note.{Note};
 ghost use Rattle.line.specs.Law.{Lawful};
 ghost use Rattle.line.specs.Calls.{put_answer, Put, Taken};

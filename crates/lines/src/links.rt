@@ -1,6 +1,6 @@
 //! The steps on the chains of a pool: a place leaves a chain at its front, or joins one at either end. Each says of the
 //! counts that it leaves them alone, which no fact about one pool can say.
-ghost use Rattle.std.specs.Prelude.{◌≡◌, ◌<◌, length, if◌then◌else◌, nat_lt, slice_index, slice_set};
+ghost use Rattle.std.specs.Prelude.{◌≡◌, ◌<◌, if◌then◌else◌, nat_lt, slice_index, slice_set};
 ghost use Rattle.chains.specs.Tables.{Moved};
 ghost use Rattle.chains.specs.Stores.{KeptIn, MovableIn, SameSizes, capacity_of, held_in};
 ghost use Rattle.chains.specs.Walk.{slot_at, slot, linked_to};

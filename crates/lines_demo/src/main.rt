@@ -9,9 +9,9 @@ use line::{Kind, LAST_STORE, Line, Note};
 use lines::{BLANK, Pigeonholes, Queue};
 use std::{fmt, io};
 
-/// How long the script is, and how many of its steps are printed one by one.
+/// How many steps the script has.
 const STEPS: u32 = 2_000;
-
+/// How many of them are printed one by one.
 const SHOWN: u32 = 48;
 /// How many notes either line holds.
 const PLACES: usize = 6;
@@ -115,6 +115,7 @@ mod tests {
     use super::*;
     use faults::numbered;
     use lines::ask;
+    use std::process::Abort;
 
     fn note(sender: u32, store: u32) -> Note {
         Note {
@@ -125,43 +126,27 @@ mod tests {
         }
     }
 
-    // the senders of three notes for store 5, with one for another store between them, in the order they are handed out
-    fn handed<L: Line>(line: &mut L) -> [Answer; 4] {
-        let _ = line.put(note(1, 5));
-        let _ = line.put(note(2, 5));
-        let _ = line.put(note(7, 6));
-        let _ = line.put(note(3, 5));
-        [5; 4].map(|store| play(line, Step::Take(store)))
+    // Puts three notes for store 5, with one for another store between them, and holds the senders of what store 5 is then
+    // handed against these.
+    fn hands<L: Line>(rt: &impl Abort, line: &mut L, senders: [u32; 3]) {
+        for (sender, store) in [(1, 5), (2, 5), (7, 6), (3, 5)] {
+            let _ = line.put(note(sender, store));
+        }
+        for sender in senders {
+            assert_eq!(rt; play(line, Step::Take(5)), Answer::Handed(Some(sender)));
+        }
+        assert_eq!(rt; play(line, Step::Take(5)), Answer::Handed(None));
+        assert_eq!(rt; line.free(), 3);
     }
-
-    // the two kinds one beside the other, so that their answers can be compared
 
     #[test]
     fn queue_hands_the_oldest(rt: HostRuntime) {
-        let mut slots = [BLANK; 4];
-        let mut queue = Queue::new(&mut slots, 4);
-        let three = [
-            Answer::Handed(Some(1)),
-            Answer::Handed(Some(2)),
-            Answer::Handed(Some(3)),
-            Answer::Handed(None),
-        ];
-        assert_eq!(rt; handed(&mut queue), three);
-        assert_eq!(rt; queue.free(), 3);
+        hands(&rt, &mut Queue::new(&mut [BLANK; 4], 4), [1, 2, 3]);
     }
 
     #[test]
     fn pigeonholes_hand_the_newest(rt: HostRuntime) {
-        let mut slots = [BLANK; 4];
-        let mut holes = Pigeonholes::new(&mut slots, 4);
-        let three = [
-            Answer::Handed(Some(3)),
-            Answer::Handed(Some(2)),
-            Answer::Handed(Some(1)),
-            Answer::Handed(None),
-        ];
-        assert_eq!(rt; handed(&mut holes), three);
-        assert_eq!(rt; holes.free(), 3);
+        hands(&rt, &mut Pigeonholes::new(&mut [BLANK; 4], 4), [3, 2, 1]);
     }
 
     #[test]
