@@ -1,8 +1,9 @@
 -- What comes of a reading: the first test that fails refuses it, and else the tables are filled. Assumes nothing.
-use Rattle.std.specs.Prelude.{◌≡◌, ℕ, ◌+◌, ◌≤◌, ◌⊎◌, List, ◌++◌, map, length, drop, Ok, Err, count_by, Result, nat_lt}
+use Rattle.std.specs.Prelude.{◌≡◌, ℕ, ◌+◌, ◌≤◌, ◌⊎◌, List, ◌++◌, map, length, take, drop, Ok, Err, count_by, Result, nat_lt}
 use Rattle.std.specs.List.{range_with_len}
 use Rattle.faults.specs.declared.Refusal.{Refusal}
 use Rattle.faults.specs.declared.Refusal.TheVariants as refusal
+use Rattle.sheet.specs.Graph.{Graph}
 use Rattle.reading.specs.declared.Sizes.{Sizes}
 use Rattle.reading.specs.declared.TablesMut.{TablesMut}
 use Rattle.reading.specs.declared.rows.Parcel.{Parcel}
@@ -45,6 +46,17 @@ pub record Room {K : Type 0} (z : Sizes) (t : Tables K) : Type 0 where
   pub keys : z.entries ≤ length t.keys
   pub stores : z.parcels ≤ length t.stores
   pub editions : z.parcels ≤ length t.editions
+
+-- the sheet of these sizes in the first places of the tables
+abbrev pub first_places : {K : Type 0} → Sizes → Tables K → Graph K
+first_places z t = record {
+  starts = take (z.parcels + 1) t.starts;
+  others = take z.entries t.others;
+  keys = take z.entries t.keys;
+  stores = take z.parcels t.stores;
+  editions = take z.parcels t.editions;
+  limit = z.stores;
+}
 
 -- the values in the first places, and in the others what stood there
 abbrev pub laid : {X : Type 0} → List X → List X → List X

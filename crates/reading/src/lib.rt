@@ -1,15 +1,16 @@
 //! A sheet's text is read into tables that the caller lends. docs/TEXT.md has the form of the text.
 #![tactic(auto)]
 
-ghost use Rattle.std.specs.Prelude.{Decides};
+ghost use Rattle.std.specs.Prelude.{◌≡◌, Some, None, Decides};
 ghost use Rattle.reading.specs.Examples.{Examples};
-ghost use Rattle.reading.specs.Outcome.{lent, SameSlices, Within, Room, Read};
+ghost use Rattle.sheet.specs.View.{graph};
+ghost use Rattle.reading.specs.Outcome.{lent, SameSlices, Within, Room, first_places, Read};
 
 use checking::Body;
 use faults::{Fault, Refusal};
 use ranking::Ranking;
 use rows::first_line;
-use sheet::sizes_within;
+use sheet::{Tables, sizes_within};
 use text::Lines;
 
 mod checking;
@@ -54,6 +55,25 @@ impl<K> TablesMut<'_, K> {
             && entries <= self.keys.len()
             && parcels <= self.stores.len()
             && parcels <= self.editions.len()
+    }
+
+    /// The first places of the tables, which a sheet of these sizes takes; none where a table is too short for it.
+    pub fn cut(&self, sizes: Sizes) -> Option<Tables<'_, K>>
+        ensures { elim result [ Some t ↦ Room sizes (lent self.now) × (graph t ≡ first_places sizes (lent self.now)) | None ↦ Room sizes (lent self.now) → ⊥ ] }
+    {
+        if !self.has_room(sizes) {
+            return None;
+        }
+        let parcels = sizes.parcels as usize;
+        let entries = sizes.entries as usize;
+        Some(Tables {
+            starts: &self.starts[..parcels + 1],
+            others: &self.others[..entries],
+            keys: &self.keys[..entries],
+            stores: &self.stores[..parcels],
+            editions: &self.editions[..parcels],
+            store_count: sizes.stores,
+        })
     }
 }
 

@@ -6,8 +6,10 @@ mod tests {
     use faults::numbered;
     use ranking::{Cents, Ranking, Staged};
     use reading::{Sizes, TablesMut, read};
+    use sheet::Tables;
+    use std::process::Abort;
     use std::test::Fail;
-    use text::{Fields, Lines};
+    use text::{Fields, Lines, Part};
 
     // Four parcels in a row.
     const ROW: &str =
@@ -202,20 +204,24 @@ mod tests {
         );
     }
 
+    // Holds the lent tables against these, each whole.
+    fn hold<K: Ranking + PartialEq>(rt: &impl Abort, lent: &TablesMut<'_, K>, wanted: Tables<K>) {
+        assert!(rt; *lent.starts == *wanted.starts);
+        assert!(rt; *lent.others == *wanted.others);
+        assert!(rt; *lent.keys == *wanted.keys);
+        assert!(rt; *lent.stores == *wanted.stores);
+        assert!(rt; *lent.editions == *wanted.editions);
+    }
+
     // The values stand in the places needed, and the other places are as they were.
     #[test]
     fn tables_of_cents(rt: HostRuntime) {
-        let mut starts = [9; 6];
-        let mut others = [9; 7];
-        let mut keys = [Cents(9); 7];
-        let mut stores = [9; 5];
-        let mut editions = [9; 5];
         let mut tables = TablesMut {
-            starts: &mut starts,
-            others: &mut others,
-            keys: &mut keys,
-            stores: &mut stores,
-            editions: &mut editions,
+            starts: &mut [9; 6],
+            others: &mut [9; 7],
+            keys: &mut [Cents(9); 7],
+            stores: &mut [9; 5],
+            editions: &mut [9; 5],
         };
         let sizes = Sizes {
             parcels: 4,
@@ -223,33 +229,30 @@ mod tests {
             stores: 2,
         };
         assert_eq!(rt; read(ROW.as_bytes(), &mut tables), Ok(sizes));
-        assert_eq!(rt; starts, [0, 1, 3, 5, 6, 9]);
-        assert_eq!(rt; others, [1, 0, 2, 1, 3, 2, 9]);
-        assert_eq!(rt; keys.map(|key| key.0), [5, 5, 9, 9, 7, 7, 9]);
-        assert_eq!(rt; stores, [0, 0, 1, 1, 9]);
-        assert_eq!(rt; editions, [21, 21, 21, 22, 9]);
+        let wanted = Tables {
+            starts: &[0, 1, 3, 5, 6, 9],
+            others: &[1, 0, 2, 1, 3, 2, 9],
+            keys: &[5, 5, 9, 9, 7, 7, 9].map(Cents),
+            stores: &[0, 0, 1, 1, 9],
+            editions: &[21, 21, 21, 22, 9],
+            store_count: 2,
+        };
+        hold(&rt, &tables, wanted);
     }
 
     // Rows with no entry start where the next one does.
     #[test]
     fn tables_of_staged_keys(rt: HostRuntime) {
-        let mut starts = [9; 5];
-        let mut others = [9; 2];
-        let mut keys = [Staged { band: 9, cents: 9 }; 2];
-        let mut stores = [9; 4];
-        let mut editions = [9; 4];
-        let text = "4,2,3\n0,2,1\n1,0,65535\n2,1,0\n3,0,7\n1,3,2,900\n1,2,0,4294967295\n";
         let mut tables = TablesMut {
-            starts: &mut starts,
-            others: &mut others,
-            keys: &mut keys,
-            stores: &mut stores,
-            editions: &mut editions,
+            starts: &mut [9; 5],
+            others: &mut [9; 2],
+            keys: &mut [Staged { band: 9, cents: 9 }; 2],
+            stores: &mut [9; 4],
+            editions: &mut [9; 4],
         };
+        let text = "4,2,3\n0,2,1\n1,0,65535\n2,1,0\n3,0,7\n1,3,2,900\n1,2,0,4294967295\n";
         let answer = read(text.as_bytes(), &mut tables);
         assert_eq!(rt; answer.err(), None);
-        assert_eq!(rt; starts, [0, 0, 2, 2, 2]);
-        assert_eq!(rt; others, [3, 2]);
         let fine = Staged {
             band: 2,
             cents: 900,
@@ -258,61 +261,58 @@ mod tests {
             band: 0,
             cents: 4294967295,
         };
-        assert_eq!(rt; keys, [fine, finest]);
-        assert_eq!(rt; stores, [2, 0, 1, 0]);
-        assert_eq!(rt; editions, [1, 65535, 0, 7]);
+        let wanted = Tables {
+            starts: &[0, 0, 2, 2, 2],
+            others: &[3, 2],
+            keys: &[fine, finest],
+            stores: &[2, 0, 1, 0],
+            editions: &[1, 65535, 0, 7],
+            store_count: 3,
+        };
+        hold(&rt, &tables, wanted);
     }
 
     // The last line is wrong, and no table is touched.
     #[test]
     fn refused_tables_stay(rt: HostRuntime) {
-        let mut starts = [9; 3];
-        let mut others = [9; 2];
-        let mut keys = [Cents(9); 2];
-        let mut stores = [9; 2];
-        let mut editions = [9; 2];
-        let text = "2,2,1\n0,0,21\n1,0,21\n0,1,5\n1,0,x\n";
         let mut tables = TablesMut {
-            starts: &mut starts,
-            others: &mut others,
-            keys: &mut keys,
-            stores: &mut stores,
-            editions: &mut editions,
+            starts: &mut [9; 3],
+            others: &mut [9; 2],
+            keys: &mut [Cents(9); 2],
+            stores: &mut [9; 2],
+            editions: &mut [9; 2],
         };
+        let text = "2,2,1\n0,0,21\n1,0,21\n0,1,5\n1,0,x\n";
         let answer = read(text.as_bytes(), &mut tables);
         assert_eq!(rt; answer.err().map(numbered), Some((1, 5)));
-        assert_eq!(rt; starts, [9; 3]);
-        assert_eq!(rt; others, [9; 2]);
-        assert_eq!(rt; keys, [Cents(9); 2]);
-        assert_eq!(rt; stores, [9; 2]);
-        assert_eq!(rt; editions, [9; 2]);
+        let wanted = Tables {
+            starts: &[9; 3],
+            others: &[9; 2],
+            keys: &[Cents(9); 2],
+            stores: &[9; 2],
+            editions: &[9; 2],
+            store_count: 1,
+        };
+        hold(&rt, &tables, wanted);
+    }
+
+    // A part of a text, by its bytes, its place and its line.
+    fn part(bytes: &[u8], place: usize, line: usize) -> Part<'_> {
+        Part { bytes, place, line }
     }
 
     #[test]
     fn parts_of_a_text(rt: HostRuntime) -> Result<(), Fail> {
         let mut lines = Lines::new(b"4,,60\n7\n8");
         let line = lines.next_line().ok_or("no line")?;
-        assert_eq!(rt;
-            (line.bytes, line.place, line.line),
-            (b"4,,60" as &[u8], 0, 1)
-        );
+        assert_eq!(rt; line, part(b"4,,60", 0, 1));
         let mut fields = Fields::new(line);
-        let four = fields.next_field().ok_or("no field")?;
-        assert_eq!(rt; (four.bytes, four.place, four.line), (b"4" as &[u8], 0, 1));
-        let empty = fields.next_field().ok_or("no field")?;
-        assert_eq!(rt;
-            (empty.bytes, empty.place, empty.line),
-            (b"" as &[u8], 2, 1)
-        );
-        let sixty = fields.next_field().ok_or("no field")?;
-        assert_eq!(rt;
-            (sixty.bytes, sixty.place, sixty.line),
-            (b"60" as &[u8], 3, 1)
-        );
-        assert!(rt; fields.next_field().is_none());
-        let line = lines.next_line().ok_or("no line")?;
-        assert_eq!(rt; (line.bytes, line.place, line.line), (b"7" as &[u8], 6, 2));
-        assert!(rt; lines.next_line().is_none());
+        assert_eq!(rt; fields.next_field(), Some(part(b"4", 0, 1)));
+        assert_eq!(rt; fields.next_field(), Some(part(b"", 2, 1)));
+        assert_eq!(rt; fields.next_field(), Some(part(b"60", 3, 1)));
+        assert_eq!(rt; fields.next_field(), None);
+        assert_eq!(rt; lines.next_line(), Some(part(b"7", 6, 2)));
+        assert_eq!(rt; lines.next_line(), None);
         assert!(rt; !lines.is_at_end());
         Ok(())
     }

@@ -6,13 +6,8 @@
 mod tests {
     use faults::numbered;
     use ranking::Cents;
-    use reading::{TablesMut, read};
+    use reading::{Sizes, TablesMut, read};
     use sheet::{Sheet, Tables};
-
-    // The first `count` places of a table, or all where there are fewer.
-    fn front<T>(table: &[T], count: usize) -> &[T] {
-        &table[..table.len().min(count)]
-    }
 
     // What the check answers of these tables; none where they pass.
     fn refusal(tables: Tables<Cents>) -> Option<(u32, u32)> {
@@ -21,43 +16,41 @@ mod tests {
             .map(numbered)
     }
 
+    // The same of the first places of these tables. They are long enough: no refusal is (0, 0).
+    fn refusal_of_first(tables: &TablesMut<Cents>, sizes: Sizes) -> Option<(u32, u32)> {
+        tables.cut(sizes).map_or(Some((0, 0)), refusal)
+    }
+
     // The same of a text, with room for four parcels and six entries.
     fn text_refusal(text: &str) -> Option<(u32, u32)> {
-        let mut starts = [0; 5];
-        let mut others = [0; 6];
-        let mut keys = [Cents(0); 6];
-        let mut stores = [0; 4];
-        let mut editions = [0; 4];
         let mut tables = TablesMut {
-            starts: &mut starts,
-            others: &mut others,
-            keys: &mut keys,
-            stores: &mut stores,
-            editions: &mut editions,
+            starts: &mut [0; 5],
+            others: &mut [0; 6],
+            keys: &mut [Cents(0); 6],
+            stores: &mut [0; 4],
+            editions: &mut [0; 4],
         };
         match read(text.as_bytes(), &mut tables) {
-            Ok(sizes) => refusal(Tables {
-                starts: front(&starts, sizes.parcels as usize + 1),
-                others: front(&others, sizes.entries as usize),
-                keys: front(&keys, sizes.entries as usize),
-                stores: front(&stores, sizes.parcels as usize),
-                editions: front(&editions, sizes.parcels as usize),
-                store_count: sizes.stores,
-            }),
+            Ok(sizes) => refusal_of_first(&tables, sizes),
             Err(fault) => Some(numbered(fault)),
         }
     }
 
     // The same of so many parcels in store 0 and so many stores, with no entries.
-    fn bare_refusal(parcels: usize, store_count: u32) -> Option<(u32, u32)> {
-        refusal(Tables {
-            starts: front(&[0; 1026], parcels.saturating_add(1)),
-            others: &[],
-            keys: &[],
-            stores: front(&[0; 1025], parcels),
-            editions: front(&[21; 1025], parcels),
-            store_count,
-        })
+    fn bare_refusal(parcels: u32, stores: u32) -> Option<(u32, u32)> {
+        let tables = TablesMut {
+            starts: &mut [0; 1026],
+            others: &mut [],
+            keys: &mut [],
+            stores: &mut [0; 1025],
+            editions: &mut [21; 1025],
+        };
+        let sizes = Sizes {
+            parcels,
+            entries: 0,
+            stores,
+        };
+        refusal_of_first(&tables, sizes)
     }
 
     // The same of one pair of parcels, with these tables in the place of the right ones.
@@ -69,9 +62,9 @@ mod tests {
         refusal(Tables {
             starts,
             others,
-            keys: front(&[Cents(5); 16_385], others.len()),
+            keys: [Cents(5); 16_385].get(..others.len()).unwrap_or(&[]),
             stores,
-            editions: front(&[21; 4], stores.len()),
+            editions: [21; 4].get(..stores.len()).unwrap_or(&[]),
             store_count: 2,
         })
     }

@@ -21,17 +21,6 @@ sheet_of l = record {
   limit = l.sizes.stores;
 }
 
--- the sheet of these sizes in the first places of the tables
-abbrev pub first_places : Sizes → Tables Cents → Graph Cents
-first_places z t = record {
-  starts = take (z.parcels + 1) t.starts;
-  others = take z.entries t.others;
-  keys = take z.entries t.keys;
-  stores = take z.parcels t.stores;
-  editions = take z.parcels t.editions;
-  limit = z.stores;
-}
-
 -- the text was read: it writes just this listing, and the tables hold its values
 pub record Reads (bs : List ℕ) (before after : Tables Cents) (l : Listing) : Type 0 where
   pub read : Read cents_key 1 bs before (Ok l.sizes) after
