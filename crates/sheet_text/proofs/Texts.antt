@@ -7,10 +7,10 @@ use Rattle.ranking.specs.declared.Cents.{Cents}
 use Rattle.ranking.specs.Kinds.{cents_atleast, cents_key}
 use Rattle.reading.specs.declared.Sizes.{Sizes}
 use Rattle.reading.specs.Listing.{Listing, Listed}
-use Rattle.reading.specs.Outcome.{Tables, Outcome, Read, Room, filled, laid}
+use Rattle.reading.specs.Outcome.{first_places, Tables, Outcome, Read, Room, filled, laid}
 use Rattle.sheet.specs.Graph.{Graph, parcels, entries}
 use Rattle.sheet.specs.Check.{Passed, Refused}
-use Rattle.sheet_text.specs.Checking.{sheet_of, first_places, Reads, Checks, TextRefused, by_check}
+use Rattle.sheet_text.specs.Checking.{sheet_of, Reads, Checks, TextRefused, by_check}
 
 -- the first places of tables with a listing's values in them have its sheet
 first_filled : {bs : List ℕ} (l : Listing) (t : Tables Cents) → Listed 1 l bs → first_places l.sizes (filled cents_key l t) ≡ sheet_of l

@@ -1,5 +1,5 @@
 -- What comes of reading and checking the text of a cents sheet. Assumes nothing.
-use Rattle.std.specs.Prelude.{◌≡◌, ℕ, ◌+◌, List, map, take, Ok, Err, Result}
+use Rattle.std.specs.Prelude.{◌≡◌, ℕ, List, map, Ok, Err, Result}
 use Rattle.faults.specs.declared.Refusal.{Refusal}
 use Rattle.faults.specs.Numbers.{number}
 use Rattle.ranking.specs.declared.Cents.{Cents}

@@ -3,12 +3,11 @@
 
 ghost use Rattle.std.specs.Prelude.{◌≡◌, ◌≤◌, [], length, Ok, Err, Decides};
 ghost use Rattle.ranking.specs.Kinds.{cents_atleast};
-ghost use Rattle.reading.specs.Outcome.{lent, SameSlices, Room};
+ghost use Rattle.reading.specs.Outcome.{lent, SameSlices};
 ghost use Rattle.sheet.specs.Graph.{parcels, entries};
 ghost use Rattle.sheet.specs.Check.{Alike};
-ghost use Rattle.sheet.specs.View.{graph};
 ghost use Rattle.sheet.specs.Held.{held};
-ghost use Rattle.sheet_text.specs.Checking.{first_places, Checking};
+ghost use Rattle.sheet_text.specs.Checking.{Checking};
 ghost use Rattle.sheet_text.specs.Pairing.{Enough, Settled, Pairing, SettlesAndPrints};
 ghost use Rattle.sheet_text.specs.Lent.{lent_memory, SameMemory};
 
@@ -25,7 +24,7 @@ use records::{Ledger, Totals};
 use results::result_text;
 use round::Board;
 use rounds::settle;
-use sheet::{Sheet, Tables, check};
+use sheet::{Sheet, check};
 
 /// The memory in which the text of a sheet is paired, lent to be written: the sheet's tables, and the records, marks and
 /// slots of its round. Each may be longer than needed.
@@ -77,23 +76,6 @@ macro_rules! memory_for {
     };
 }
 
-// The first places of the tables, which a sheet of these sizes takes.
-fn cut<'a>(sizes: Sizes, tables: &'a TablesMut<'_, Cents>) -> Tables<'a, Cents>
-    requires { Room sizes (lent tables.now) }
-    ensures { graph result ≡ first_places sizes (lent tables.now) }
-{
-    let n = sizes.parcels as usize;
-    let e = sizes.entries as usize;
-    Tables {
-        starts: &tables.starts[..n + 1],
-        others: &tables.others[..e],
-        keys: &tables.keys[..e],
-        stores: &tables.stores[..n],
-        editions: &tables.editions[..n],
-        store_count: sizes.stores,
-    }
-}
-
 /// Reads the text of a cents sheet into the tables, which may be longer than needed, and checks it. Answers its sizes.
 ///
 /// Refuses what reading refuses (1 to 3), and then alters no table; else what the check refuses (4 to 8), and then the
@@ -104,7 +86,10 @@ pub fn check_text(text: &[u8], tables: &mut TablesMut<'_, Cents>) -> Result<Size
 {
     let sizes = read(text, tables)?;
     let mut sheet = Sheet::empty();
-    check(&mut sheet, cut(sizes, tables))?;
+    let Some(first) = tables.cut(sizes) else {
+        unreachable();
+    };
+    check(&mut sheet, first)?;
     Ok(sizes)
 }
 
@@ -163,7 +148,10 @@ pub fn pair_text(text: &[u8], memory: &mut MemoryMut<'_>, out: &mut [u8]) -> Res
     let sizes = read(text, &mut memory.tables)?;
     let enough = memory.is_enough(sizes);
     let mut sheet = Sheet::empty();
-    check(&mut sheet, cut(sizes, &memory.tables))?;
+    let Some(first) = memory.tables.cut(sizes) else {
+        unreachable();
+    };
+    check(&mut sheet, first)?;
     if !enough {
         return Err((Refusal::Room, 0));
     }

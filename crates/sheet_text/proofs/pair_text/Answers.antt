@@ -30,24 +30,24 @@ pub returns-in_err-check-clause-pairs : goal.returns-in_err-check-clause-pairs
 returns-in_err-check-clause-pairs c =
     let p = err_from_is_err_and c.from_residual-in_err-check.result c.from_residual-in_err-check.ensures.1 in
     let told = c.in_err-check.ensures in
-    rw (p.1, p.2) (by_text (refused_by (found c.in_ok-sizes.ensures.reads) c.cut.ensures told.0 told.1) untouched, refl {a = c.args.out.now})
+    rw (p.1, p.2) (by_text (refused_by (found c.in_ok-sizes.ensures.reads) c.in-Some.ensures.1 told.0 told.1) untouched, refl {a = c.args.out.now})
 
-pub cut-requires : goal.cut-requires
-cut-requires c = room_after (found c.in_ok-sizes.ensures.reads)
+pub unreachable-requires : goal.unreachable-requires
+unreachable-requires c = absurd (c.in_default.ensures (room_after (found c.in_ok-sizes.ensures.reads)))
 
 pub returns-then-not-enough-clause-pairs : goal.returns-then-not-enough-clause-pairs
 returns-then-not-enough-clause-pairs c =
     let text = found c.in_ok-sizes.ensures.reads in
     let n = ap (λ (s : Sizes). s.parcels) text.sizes in
     let e = ap (λ (s : Sizes). s.entries) text.sizes in
-    (by_memory (checks_by text c.cut.ensures c.in_ok-check.ensures.0) (λ enough. false≢true (c.if-not-enough.ensures.1 (record { records = omega (arith, n, enough.records); marks = omega (arith, e, enough.marks); slots = omega (arith, e, enough.slots) }))) untouched, refl {a = c.args.out.now})
+    (by_memory (checks_by text c.in-Some.ensures.1 c.in_ok-check.ensures.0) (λ enough. false≢true (c.if-not-enough.ensures.1 (record { records = omega (arith, n, enough.records); marks = omega (arith, e, enough.marks); slots = omega (arith, e, enough.slots) }))) untouched, refl {a = c.args.out.now})
 
 pub settle_sheet-requires : goal.settle_sheet-requires
 settle_sheet-requires c =
     let text = found c.in_ok-sizes.ensures.reads in
     let told = c.in_ok-check.ensures in
     let kept = ap graph told.1 in
-    let same = kept ∙ c.cut.ensures ∙ text.first in
+    let same = kept ∙ c.in-Some.ensures.1 ∙ text.first in
     let enough = c.if-not-enough.ensures.0 refl in
     let n : parcels (held c.check.new.sheet) ≡ c.in_ok-sizes.sizes.parcels = ap parcels same ∙ text.parcels_many in
     let e : entries (held c.check.new.sheet) ≡ c.in_ok-sizes.sizes.entries = ap entries same ∙ text.entries_many in
@@ -72,8 +72,8 @@ returns-clause-pairs c =
     let marked : c.in_ok-sizes.sizes.entries ≡ length ms = omega (arith, enough.marks, c.settle_sheet.auto.marks, length-take c.in_ok-sizes.sizes.entries marks) in
     let long : c.in_ok-sizes.sizes.parcels ≡ length rs = omega (arith, enough.records, c.settle_sheet.auto.records, length-take c.in_ok-sizes.sizes.parcels old) in
     paired_or_short _ _ rs ms c.settle_sheet.result
-    (checks_by text c.cut.ensures told.0)
+    (checks_by text c.in-Some.ensures.1 told.0)
     (record { records = omega (arith, enough.records); marks = omega (arith, enough.marks); slots = omega (arith, enough.slots) })
     (ap (λ k. rs ++ drop k old) long)
     (ap (λ k. ms ++ drop k marks) marked)
-    (subst (λ t. SettlesAndPrints t rs ms c.args.out.now c.settle_sheet.result c.settle_sheet.new.out) (ap graph told.1 ∙ c.cut.ensures ∙ text.first) c.settle_sheet.ensures)
+    (subst (λ t. SettlesAndPrints t rs ms c.args.out.now c.settle_sheet.result c.settle_sheet.new.out) (ap graph told.1 ∙ c.in-Some.ensures.1 ∙ text.first) c.settle_sheet.ensures)
