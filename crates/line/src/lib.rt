@@ -10,6 +10,8 @@ ghost use Rattle.line.specs.Kinds.{code, Decodes};
 
 use faults::Fault;
 
+// The limits are a line's own, which knows no sheet; they suffice for the largest one.
+
 /// The largest capacity of a line.
 pub const MAX_NOTES: u32 = 16_384;
 /// The highest number of a store.
