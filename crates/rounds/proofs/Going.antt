@@ -1,16 +1,18 @@
 -- Turns one after the other, as a run makes them. Assumes nothing.
-use Rattle.std.proofs.Common.{◌≡◌, ℕ, suc, ◌+◌, ◌-◌, ◌<◌, ◌≤◌, Bool, true, List, length, is_some, Some, None, Ok, Err, sym, ap, ◌∙◌, subst, arith}
-use Rattle.std.proofs.lemmas.Bool.{true≢false}
-use Rattle.rounds.specs.Next.{Idle, Store, NextTurn, Turned}
+use Rattle.std.proofs.Common.{◌≡◌, ℕ, suc, ◌+◌, ◌-◌, ◌<◌, ◌≤◌, Bool, true, List, length, is_some, Some, None, Ok, Err, set, ◌≢◌, sym, ap, ◌∙◌, subst, ⊎_elim, arith}
+use Rattle.std.proofs.lemmas.Bool.{true≢false, cases_eq, cases_lt}
+use Rattle.rounds.specs.Next.{NoIdleBelow, Idle, Store, NextTurn, Turned}
 use Rattle.rounds.specs.declared.Turn.{Turn}
 use Rattle.rounds.specs.declared.Turn.TheVariants.{StartOf, FetchFor}
-use Rattle.std.proofs.lemmas.List.{length-set}
+use Rattle.std.proofs.lemmas.List.{length-set, get_or-set_same, get_or-set_other, get_or_past}
 use Rattle.faults.specs.declared.Refusal.{Refusal}
 use Rattle.faults.specs.Numbers.{number}
 use Rattle.line.specs.declared.Note.{Note}
 use Rattle.records.specs.declared.record.Record.{Record}
-use Rattle.sheet.specs.Graph.{Graph}
+use Rattle.records.specs.Records.{state}
+use Rattle.sheet.specs.Graph.{Graph, parcels}
 use Rattle.protocol.specs.World.{World, fits}
+use Rattle.protocol.specs.Steps.{Chooses, alone, waits, pairs, Receives, hears, agrees, loses, turns}
 use Rattle.protocol.specs.Turns.{Changes, Started, Fetched}
 use Rattle.protocol.specs.Runs.{LowestIdle, LowestStore, Quiet, Ran, still, spent, refused_start, refused_fetch, then_start, then_fetch}
 use Rattle.protocol.specs.declared.Ending.{Ending}
@@ -18,7 +20,48 @@ use Rattle.protocol.specs.declared.Ending.TheVariants.{Still, Spent, Refused}
 use Rattle.protocol.proofs.Holds.{fits_facts, facts_fit}
 use Rattle.protocol.proofs.Long.{chooses_long, receives_long}
 
+-- where a record that is not idle is written, a parcel that is not idle stays so
+kept_busy : (rs : List Record) (u : ℕ) (r : Record) (v : ℕ) → state rs v ≢ 0 → (v ≡ u → r.state ≢ 0) → state (set rs u r) v ≢ 0
+kept_busy rs u r v busy written =
+    ⊎_elim
+    (λ e. ⊎_elim
+    (λ less. subst (λ k. state (set rs u r) k ≢ 0) (sym e) (λ idle. written e (ap (λ (x : Record). x.state) (sym (get_or-set_same rs u r _ (subst (λ k. k < length rs) e less))) ∙ idle)))
+    (λ past. absurd (busy (ap (λ (x : Record). x.state) (get_or_past rs v _ past))))
+    (cases_lt v (length rs)))
+    (λ n idle. busy (ap (λ (x : Record). x.state) (sym (get_or-set_other rs u v r _ n)) ∙ idle))
+    (cases_eq v u)
+
+-- below which of so many parcels none is idle, once this turn is made
+abbrev pub busy_below : ℕ → Turn → ℕ
+busy_below many (StartOf u) = u
+busy_below many (FetchFor s) = many
+
 module _ {K : Type 0} (atleast : K → K → Bool) (t : Graph K) where
+  -- who chooses is not idle then
+  chooses_busy : {u : ℕ} {m : List ℕ} {r : Record} {m' : List ℕ} {out : List Note} → Chooses atleast t u m r m' out → r.state ≢ 0
+  chooses_busy (alone _) e = omega (arith, e)
+  chooses_busy (waits _ _) e = omega (arith, e)
+  chooses_busy (pairs _ _ _) e = omega (arith, e)
+
+  -- who receives a note and is not idle does not become so
+  receives_busy : {n : Note} {r r' : Record} {m m' : List ℕ} {out : List Note} → Receives atleast t n r m r' m' out → r.state ≢ 0 → r'.state ≢ 0
+  receives_busy (hears _ _) busy = busy
+  receives_busy (agrees _ _ _) busy = λ e. omega (arith, e)
+  receives_busy (loses _ _) busy = busy
+  receives_busy (turns _ _ ch) busy = chooses_busy ch
+
+  -- no turn makes a parcel idle
+  started_busy : {u : ℕ} {w w' : World} (k : ℕ) → Started atleast t u w w' → NoIdleBelow w.records k → NoIdleBelow w'.records k
+  started_busy {u} {w} k did busy = λ v less.
+      subst (λ rs. state rs v ≢ 0) (sym did.changes.records)
+      (kept_busy w.records u did.accepted.record' v (busy v less) (λ _. chooses_busy did.accepted.chooses))
+
+  fetched_busy : {s : ℕ} {w w' : World} (k : ℕ) → Fetched atleast t s w w' → NoIdleBelow w.records k → NoIdleBelow w'.records k
+  fetched_busy {s} {w} k did busy = λ v less.
+      subst (λ rs. state rs v ≢ 0) (sym did.changes.records)
+      (kept_busy w.records did.accepted.note.addressee did.accepted.record' v (busy v less)
+      (λ e. receives_busy did.accepted.receives (subst (λ x. state w.records x ≢ 0) e (busy v less))))
+
   changes_fit : {w w' : World} {u : ℕ} {r : Record} {m : List ℕ} {rest out : List Note} → fits t w ≡ true → Changes w u r m rest out w' → length m ≡ length w.marks → fits t w' ≡ true
   changes_fit {w} {w'} {u} {r} fit ch long =
       let f = fits_facts t w fit in
@@ -74,9 +117,10 @@ module _ {K : Type 0} (atleast : K → K → Bool) (t : Graph K) where
   quiet_seen n = record { none_idle = n.0; none_waiting = n.1 }
 
   -- an accepted turn is one more
-  pub turned_ok : {w0 w w' : World} {k : ℕ} (turn : Turn) (u : Unit {0}) → NextTurn t w.records w.next (Some turn) → Turned atleast t turn (Ok u) w w' → Went w0 k w → Went w0 (k + 1) w' × (fits t w' ≡ true)
-  turned_ok (StartOf p) u comes did went = (and_start went (idle_seen comes) did, started_fits did)
-  turned_ok (FetchFor s) u comes did went = (and_fetch went (store_seen comes) did, fetched_fits did)
+  pub turned_ok : {w0 w w' : World} {k : ℕ} (turn : Turn) (u : Unit {0}) → NextTurn t w.records w.next (Some turn) → Turned atleast t turn (Ok u) w w' → Went w0 k w
+      → Went w0 (k + 1) w' × (fits t w' ≡ true) × NoIdleBelow w'.records (busy_below (parcels t) turn)
+  turned_ok (StartOf p) u comes did went = (and_start went (idle_seen comes) did, started_fits did, started_busy p did comes.2)
+  turned_ok (FetchFor s) u comes did went = (and_fetch went (store_seen comes) did, fetched_fits did, fetched_busy (parcels t) did comes.0)
 
   -- a refused turn ends the run, and alters nothing
   pub turned_err : {w w' : World} (turn : Turn) (f : Refusal × ℕ) (b : ℕ) → fits t w ≡ true → NextTurn t w.records w.next (Some turn) → Turned atleast t turn (Err f) w w' → Ran atleast t (suc b) w 0 (Refused (number f.0) f.1) w × (w' ≡ w)

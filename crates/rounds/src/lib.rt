@@ -9,7 +9,7 @@ ghost use Rattle.round.specs.Seen.{seen, SameBoard};
 ghost use Rattle.sheet.specs.Check.{Alike};
 ghost use Rattle.round.specs.Closing.{OpenRefused};
 ghost use Rattle.rounds.specs.Settling.{Ready, Settling, SettlesOrUnopened, DoesNotRefuse};
-ghost use Rattle.rounds.specs.Next.{Idle, Store, NextTurn, Turned};
+ghost use Rattle.rounds.specs.Next.{NoIdleBelow, Idle, Store, NextTurn, Turned};
 
 use faults::{Fault, Refusal};
 use line::Line;
@@ -28,12 +28,13 @@ pub enum Turn {
     FetchFor(u32),
 }
 
-// The lowest idle parcel.
-fn lowest_idle<K: Copy>(ledger: Ledger<'_, K>) -> Option<u32>
-    requires { length ledger.records.now ≡ parcels (held ledger.sheet.now) }
+// The lowest idle parcel; none below `from` is idle.
+fn lowest_idle<K: Copy>(ledger: Ledger<'_, K>, from: u32) -> Option<u32>
+    requires long { length ledger.records.now ≡ parcels (held ledger.sheet.now) }
+    requires busy { NoIdleBelow ledger.records.now from }
     ensures { Idle (held ledger.entry.sheet.now) ledger.entry.records.now result }
 {
-    (0..ledger.parcel_count()).find(|u| ledger.records[*u as usize].is(State::Idle))
+    (from..ledger.parcel_count()).find(|u| ledger.records[*u as usize].is(State::Idle))
 }
 
 // The lowest store of the sheet that a note waits for.
@@ -43,13 +44,15 @@ fn lowest_store<K: Copy, L: Line>(sheet: &Sheet<K>, line: &L) -> Option<u32>
     (0..sheet.tables().store_count).find(|s| line.next(*s).is_some())
 }
 
-// The turn that comes next: a start of the lowest idle parcel, else a fetch for the lowest store with a note.
-fn next_turn<K: Copy, L: Line>(sheet: &Sheet<K>, board: &Board<'_, L>) -> Option<Turn>
-    requires { length board.now.records.now ≡ parcels (held sheet.now) }
+// The turn that comes next: a start of the lowest idle parcel, else a fetch for the lowest store with a note. No parcel
+// below `from` is idle.
+fn next_turn<K: Copy, L: Line>(sheet: &Sheet<K>, board: &Board<'_, L>, from: u32) -> Option<Turn>
+    requires long { length board.now.records.now ≡ parcels (held sheet.now) }
+    requires busy { NoIdleBelow board.now.records.now from }
     ensures { NextTurn (held sheet.now) board.now.records.now (L.Line.chosen board.now.line.now) result }
 {
     let records = &*board.records;
-    match lowest_idle(Ledger { sheet, records }) {
+    match lowest_idle(Ledger { sheet, records }, from) {
         Some(u) => Some(Turn::StartOf(u)),
         None => lowest_store(sheet, board.line).map(Turn::FetchFor),
     }
@@ -90,15 +93,21 @@ pub fn run<K: Ranking, L: Line>(
     if !board.fits(round, sheet) {
         return (0, Ending::Refused(u32::from(Refusal::WrongLength), 0));
     }
+    // no parcel below is idle, and no turn makes one idle
+    let mut from = 0;
     for made in 0..budget {
-        let Some(turn) = next_turn(sheet, board) else {
+        let Some(turn) = next_turn(sheet, board, from) else {
             return (made, Ending::Still);
         };
         if let Err((refusal, place)) = make_turn(round, sheet, board, turn) {
             return (made, Ending::Refused(u32::from(refusal), place));
         }
+        from = match turn {
+            Turn::StartOf(u) => u,
+            Turn::FetchFor(_) => sheet.tables().stores.len() as u32,
+        };
     }
-    match next_turn(sheet, board) {
+    match next_turn(sheet, board, from) {
         Some(_) => (budget, Ending::Spent),
         None => (budget, Ending::Still),
     }
