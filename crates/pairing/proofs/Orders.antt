@@ -7,9 +7,9 @@ use Rattle.ranking.proofs.Lifted.{lifted_lawful}
 use Rattle.matching.specs.Pairs.{Pair, Ordered}
 use Rattle.sheet.specs.Graph.{Graph, other, key, InRow}
 use Rattle.sheet.specs.Check.{Sound, Alike}
-use Rattle.sheet.proofs.Rows.{row_rises}
 use Rattle.pairing.specs.Pairs.{joint, pair_key}
 use Rattle.pairing.specs.Above.{later, stands_above, above, entry_above}
+use Rattle.pairing.proofs.Entries.{row_rises}
 use Rattle.pairing.proofs.Keys.{level_same, key_level, itself}
 
 later_not_itself : (a b : ℕ) → (ltb b b || (eqb b b && ltb a a)) ≡ false
@@ -67,8 +67,8 @@ module _ {K : Type 0} (atleast : K → K → Bool) (laws : Lawful atleast) (t : 
   place_order u p q a b =
       ⊎_elim (λ e. ap (λ x. ltb (other t x) (other t p)) (sym e) ∙ le-ltb (other t p) (other t p) (omega arith) ∙ sym (le-ltb q p (omega arith)))
       (⊎_elim
-      (λ l. le-ltb (other t q) (other t p) (omega (arith, row_rises t sound.rising u p q a b l)) ∙ sym (le-ltb q p (omega arith)))
-      (λ l. lt-ltb (other t q) (other t p) (row_rises t sound.rising u q p b a l) ∙ sym (lt-ltb q p l)))
+      (λ l. le-ltb (other t q) (other t p) (omega (arith, row_rises t sound u p q a b l)) ∙ sym (le-ltb q p (omega arith)))
+      (λ l. lt-ltb (other t q) (other t p) (row_rises t sound u q p b a l) ∙ sym (lt-ltb q p l)))
       (cases_order p q)
 
   -- within a row, the order of pairs is the order of entries

@@ -6,7 +6,7 @@ ghost use Rattle.faults.specs.Numbers.{number};
 
 use crate::checked::Sheet;
 use crate::fitted::Fitted;
-use crate::tables::Tables;
+use crate::tables::{Tables, find};
 use faults::Fault;
 use ranking::Ranking;
 
@@ -23,15 +23,9 @@ pub fn check<'a, K: Ranking>(sheet: &mut Sheet<'a, K>, tables: Tables<'a, K>) ->
     Ok(())
 }
 
-/// The place of the entry of row `u` that names `v`, if there is one.
+/// The place of the first entry of row `u` that names `v`, if there is one.
 pub fn find_entry<K: Copy>(sheet: &Sheet<K>, u: usize, v: usize) -> Option<usize>
     ensures { result ≡ entry_between (graph sheet.now.tables) u v }
 {
-    let row = sheet.row(u);
-    let start = row.start;
-    let v = u32::try_from(v).ok()?;
-    sheet.tables.others[row]
-        .binary_search(&v)
-        .ok()
-        .map(|i| start + i)
+    find(sheet.tables.others, sheet.row(u), v)
 }

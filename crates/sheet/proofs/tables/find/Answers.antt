@@ -1,8 +1,9 @@
-use Rattle.std.proofs.Common.{◌≤◌, ◌^◌, None, sym, arith, ◌≡◌, ◌+◌, ◌==◌, option_map, rules, tests, ap, ◌∙◌}
+use Rattle.std.proofs.Common.{ℕ, ◌≤◌, ◌^◌, None, false, eqb, get_or, sym, arith, ◌≡◌, ◌+◌, ◌==◌, option_map, rules, tests, ap, ◌∙◌}
 use Rattle.std.specs.List.{slice_range, position}
 use Rattle.std.proofs.lemmas.Iterator.{YieldsList-from_slice}
 use Rattle.std.proofs.lemmas.Iterator.Search.{position_from_yields_List}
-use Rattle.sheet.proofs.Places.{place_position, nowhere_between}
+use Rattle.std.proofs.lemmas.Bool.{ne_eqb}
+use Rattle.sheet.proofs.Places.{place_position, place_none}
 use Rattle.sheet.proofs.tables.find.Goals as goal
 
 pub returns-clause-first : goal.returns-clause-first
@@ -18,4 +19,5 @@ returns-in_err-v-clause-first c =
     let row = c.args.row in
     let wide : 2 ^ 32 ≤ c.args.v = search rules in
     let is : c.from_residual.result ≡ None = search rules in
-    is ∙ sym (nowhere_between c.args.others.now c.args.v row.start row.end c.requires.0 (λ i from to e. omega (arith, c.type_inv.others i, wide, e)))
+    let nowhere : (i : ℕ) → eqb (get_or c.args.others.now i 0) c.args.v ≡ false = λ i. ne_eqb (get_or c.args.others.now i 0) c.args.v (λ e. omega (arith, c.type_inv.others i, wide, e)) in
+    is ∙ sym (place_none c.args.others.now c.args.v nowhere row.start row.end c.requires.0)
