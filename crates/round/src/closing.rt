@@ -50,8 +50,8 @@ fn try_open<K: Copy, L: Line>(
     })
 }
 
-// `open` and `close` take the tables and the line one by one, since they only read some of them: a board lends all to be
-// written. Its own `open` and `close` are for those who hold one.
+// `open` and `close` take the tables and the line one by one: a board lends all three to be written, and `open` only reads the
+// line, and `close` all three. A board's own `open` and `close` are for those who hold one.
 
 /// Opens a round on a checked sheet: every parcel is idle, every mark clear, and both counts are 0.
 ///
@@ -132,13 +132,6 @@ pub fn close<K: Ranking, L: Line>(
 }
 
 impl<L: Line> Board<'_, L> {
-    // The round that `open` opens, or why it refuses.
-    fn try_open<K: Copy>(&self, sheet: &Sheet<K>) -> Result<Round, Fault>
-        ensures { elim result [ Ok x ↦ Openable (held sheet.now) (seen L.Line.waiting L.Line.capacity L.Line.chosen x self.now) | Err f ↦ OpenRefused (held sheet.now) self.now.records.now self.now.marks.now (L.Line.waiting self.now.line.now) (L.Line.capacity self.now.line.now) (number f.0) f.1 ] }
-    {
-        try_open(sheet, self.records, self.marks, self.line)
-    }
-
     /// Opens a round on a checked sheet, as the function `open` does, on what the board lends. The line stays as it is.
     ///
     /// Refuses, and then alters nothing, a line that is not empty or that holds fewer notes than the sheet has entries (11),
@@ -148,10 +141,7 @@ impl<L: Line> Board<'_, L> {
         ensures line { self.new.line.now ≡ self.old.line.now }
         ensures board { SameBoard self.old self.new }
     {
-        let round = self.try_open(sheet)?;
-        clear_records(self.records);
-        self.marks.fill(0);
-        Ok(round)
+        open(sheet, self.records, self.marks, self.line)
     }
 
     /// Closes a settled round, as the function `close` does, on what the board lends.
