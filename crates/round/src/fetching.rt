@@ -32,14 +32,6 @@ fn entry_for<K: Ranking>(sheet: &Sheet<K>, store: u32, note: Note) -> Option<(Ki
     Some((kind, at))
 }
 
-// Whether parcel `a`, which has this record, waits with the entry at place `at` of its row as its choice.
-fn awaits<K: Copy>(sheet: &Sheet<K>, a: usize, at: usize, was: Record) -> bool
-    requires { InRow (held sheet.now) a at }
-    ensures { result ≡ (was.state == 1 && row_start (held sheet.now) a + was.choice == at) }
-{
-    was.is(State::Waits) && sheet.place(a, was.choice) == Some(at)
-}
-
 // Takes the note that the line hands its store.
 fn take_sure<L: Line>(line: &mut L, note: Note)
     requires { L.Line.chosen line.old note.store ≡ Some note }
@@ -49,96 +41,108 @@ fn take_sure<L: Line>(line: &mut L, note: Note)
     let _ = line.take(note.store);
 }
 
-// The next three are one step: receiving a note, and its two cases. They take the same things, and no struct of them, which would
-// live for this one step.
-
-// The addressee receives a bid: its entry for the sender is marked, and if it waits with that choice, it pairs there.
-// No answer, and nothing altered, where there is no room for what that sends.
-fn receive_bid<K: Ranking, L: Line>(
-    sheet: &Sheet<K>,
-    marks: &mut [u8],
-    line: &mut L,
+// A note as its addressee receives it, with the addressee's entry for the sender and the record that it has.
+#[derive(Clone, Copy)]
+struct Arrival {
     note: Note,
     at: usize,
     was: Record,
-) -> Option<(Record, u32)>
-    requires kind { note.kind ≡ 1 }
-    requires within { InRow (held sheet.now) note.addressee at }
-    requires entry { at ≡ entry_of (held sheet.now) note }
-    requires long { length marks.old ≡ entries (held sheet.now) }
-    requires handed { L.Line.chosen line.old note.store ≡ Some note }
-    ensures { Received K.Ranking.atleast (held sheet.now) L.Line.waiting L.Line.capacity note was result marks.old marks.new line.old line.new }
-{
-    let a = note.addressee as usize;
-    if !awaits(sheet, a, at, was) {
+}
+
+impl Arrival {
+    // Whether the addressee waits with that entry as its choice.
+    fn awaits<K: Copy>(self, sheet: &Sheet<K>) -> bool
+        requires { InRow (held sheet.now) self.note.addressee self.at }
+        ensures { result ≡ (self.was.state == 1 && row_start (held sheet.now) self.note.addressee + self.was.choice == self.at) }
+    {
+        let a = self.note.addressee as usize;
+        self.was.is(State::Waits) && sheet.place(a, self.was.choice) == Some(self.at)
+    }
+
+    // The addressee receives a bid: its entry for the sender is marked, and if it waits with that choice, it pairs there.
+    // No answer, and nothing altered, where there is no room for what that sends.
+    fn receive_bid<K: Ranking, L: Line>(
+        self,
+        sheet: &Sheet<K>,
+        marks: &mut [u8],
+        line: &mut L,
+    ) -> Option<(Record, u32)>
+        requires kind { self.note.kind ≡ 1 }
+        requires within { InRow (held sheet.now) self.note.addressee self.at }
+        requires entry { self.at ≡ entry_of (held sheet.now) self.note }
+        requires long { length marks.old ≡ entries (held sheet.now) }
+        requires handed { L.Line.chosen line.old self.note.store ≡ Some self.note }
+        ensures { Received K.Ranking.atleast (held sheet.now) L.Line.waiting L.Line.capacity self.note self.was result marks.old marks.new line.old line.new }
+    {
+        let Arrival { note, at, was } = self;
+        if !self.awaits(sheet) {
+            take_sure(line, note);
+            marks[at] |= BIDDEN;
+            return Some((was, 0));
+        }
+        let a = note.addressee as usize;
+        let count = count_open_others(sheet, marks, a, at);
+        if count > line.free() + 1 {
+            return None;
+        }
         take_sure(line, note);
         marks[at] |= BIDDEN;
-        return Some((was, 0));
+        let_go(sheet, marks, line, a, at);
+        Some((with_choice(sheet, State::Paired, a, at), count))
     }
-    let count = count_open_others(sheet, marks, a, at);
-    if count > line.free() + 1 {
-        return None;
-    }
-    take_sure(line, note);
-    marks[at] |= BIDDEN;
-    let_go(sheet, marks, line, a, at);
-    Some((with_choice(sheet, State::Paired, a, at), count))
-}
 
-// The addressee receives a drop: its entry for the sender is struck, and if it waits with that choice, it chooses.
-// No answer, and nothing altered, where there is no room for what that sends.
-fn receive_drop<K: Ranking, L: Line>(
-    sheet: &Sheet<K>,
-    marks: &mut [u8],
-    line: &mut L,
-    note: Note,
-    at: usize,
-    was: Record,
-) -> Option<(Record, u32)>
-    requires kind { note.kind ≡ 2 }
-    requires within { InRow (held sheet.now) note.addressee at }
-    requires entry { at ≡ entry_of (held sheet.now) note }
-    requires long { length marks.old ≡ entries (held sheet.now) }
-    requires handed { L.Line.chosen line.old note.store ≡ Some note }
-    ensures { Received K.Ranking.atleast (held sheet.now) L.Line.waiting L.Line.capacity note was result marks.old marks.new line.old line.new }
-{
-    let a = note.addressee as usize;
-    let old = marks[at];
-    marks[at] = old | STRUCK;
-    if !awaits(sheet, a, at, was) {
+    // The addressee receives a drop: its entry for the sender is struck, and if it waits with that choice, it chooses.
+    // No answer, and nothing altered, where there is no room for what that sends.
+    fn receive_drop<K: Ranking, L: Line>(
+        self,
+        sheet: &Sheet<K>,
+        marks: &mut [u8],
+        line: &mut L,
+    ) -> Option<(Record, u32)>
+        requires kind { self.note.kind ≡ 2 }
+        requires within { InRow (held sheet.now) self.note.addressee self.at }
+        requires entry { self.at ≡ entry_of (held sheet.now) self.note }
+        requires long { length marks.old ≡ entries (held sheet.now) }
+        requires handed { L.Line.chosen line.old self.note.store ≡ Some self.note }
+        ensures { Received K.Ranking.atleast (held sheet.now) L.Line.waiting L.Line.capacity self.note self.was result marks.old marks.new line.old line.new }
+    {
+        let Arrival { note, at, was } = self;
+        let old = marks[at];
+        marks[at] = old | STRUCK;
+        if !self.awaits(sheet) {
+            take_sure(line, note);
+            return Some((was, 0));
+        }
+        let a = note.addressee as usize;
+        let plan = plan_choice(sheet, marks, a);
+        let count = plan.sending();
+        if count > line.free() + 1 {
+            marks[at] = old;
+            return None;
+        }
         take_sure(line, note);
-        return Some((was, 0));
+        Some((carry_out(sheet, marks, line, a, plan), count))
     }
-    let plan = plan_choice(sheet, marks, a);
-    let count = plan.sending();
-    if count > line.free() + 1 {
-        marks[at] = old;
-        return None;
-    }
-    take_sure(line, note);
-    Some((carry_out(sheet, marks, line, a, plan), count))
-}
 
-// The addressee receives a note of this kind.
-fn receive<K: Ranking, L: Line>(
-    sheet: &Sheet<K>,
-    marks: &mut [u8],
-    line: &mut L,
-    kind: Kind,
-    note: Note,
-    at: usize,
-    was: Record,
-) -> Option<(Record, u32)>
-    requires kind { code kind ≡ note.kind }
-    requires comes { stray K.Ranking.atleast (held sheet.now) note.store note ≡ false }
-    requires entry { at ≡ entry_of (held sheet.now) note }
-    requires long { length marks.old ≡ entries (held sheet.now) }
-    requires handed { L.Line.chosen line.old note.store ≡ Some note }
-    ensures { Received K.Ranking.atleast (held sheet.now) L.Line.waiting L.Line.capacity note was result marks.old marks.new line.old line.new }
-{
-    match kind {
-        Kind::Bid => receive_bid(sheet, marks, line, note, at, was),
-        Kind::Drop => receive_drop(sheet, marks, line, note, at, was),
+    // The addressee receives the note, which is of this kind.
+    fn receive<K: Ranking, L: Line>(
+        self,
+        sheet: &Sheet<K>,
+        marks: &mut [u8],
+        line: &mut L,
+        kind: Kind,
+    ) -> Option<(Record, u32)>
+        requires kind { code kind ≡ self.note.kind }
+        requires comes { stray K.Ranking.atleast (held sheet.now) self.note.store self.note ≡ false }
+        requires entry { self.at ≡ entry_of (held sheet.now) self.note }
+        requires long { length marks.old ≡ entries (held sheet.now) }
+        requires handed { L.Line.chosen line.old self.note.store ≡ Some self.note }
+        ensures { Received K.Ranking.atleast (held sheet.now) L.Line.waiting L.Line.capacity self.note self.was result marks.old marks.new line.old line.new }
+    {
+        match kind {
+            Kind::Bid => self.receive_bid(sheet, marks, line),
+            Kind::Drop => self.receive_drop(sheet, marks, line),
+        }
     }
 }
 
@@ -163,21 +167,20 @@ pub fn fetch<K: Ranking, L: Line>(
     if !board.fits(round, sheet) {
         return Err((Refusal::WrongLength, 0));
     }
-    let Some(note) = board.line.next(store) else {
-        return Err((Refusal::NothingWaits, store));
-    };
-    let Some((kind, at)) = entry_for(sheet, store, note) else {
-        return Err((Refusal::StrayNote, store));
-    };
+    let note = board
+        .line
+        .next(store)
+        .ok_or((Refusal::NothingWaits, store))?;
+    let (kind, at) = entry_for(sheet, store, note).ok_or((Refusal::StrayNote, store))?;
     let a = note.addressee as usize;
     let strays = board.strays(sheet, a).unwrap_or(true);
     if strays {
         return Err((Refusal::Astray, note.addressee));
     }
     let was = board.records[a];
-    let Some((now_is, sent)) = receive(sheet, board.marks, board.line, kind, note, at, was) else {
-        return Err((Refusal::NoRoom, note.addressee));
-    };
+    let arrival = Arrival { note, at, was };
+    let received = arrival.receive(sheet, board.marks, board.line, kind);
+    let (now_is, sent) = received.ok_or((Refusal::NoRoom, note.addressee))?;
     board.records[a] = now_is;
     round.count_turn(sent);
     Ok(())

@@ -1,4 +1,6 @@
 use Rattle.std.proofs.Common.{◌≡◌, ◌+◌, ◌<◌, ◌≤◌, min, true, false, Some, unwrap_or, sym, refl, ap, ◌∙◌, subst, arith}
+use Rattle.std.proofs.lemmas.Result.{err_from_is_err_and}
+use Rattle.faults.specs.declared.Refusal.TheVariants.{NothingWaits, StrayNote, NoRoom}
 use Rattle.sheet.specs.View.{graph}
 use Rattle.sheet.specs.Held.{held}
 use Rattle.sheet.proofs.Held.{held_sound}
@@ -23,22 +25,28 @@ returns-then-not-fits-clause-turn g c =
     let why = fetch_sizes low (sym c.if-not-fits.ensures) in
     (why, fetch_not_accepted g.K.Ranking.atleast g.met.K.Ranking.lawful (held s) why, refl)
 
-pub returns-in_default-clause-turn : goal.returns-in_default-clause-turn
-returns-in_default-clause-turn g c =
+pub returns-in_err-note-clause-turn : goal.returns-in_err-note-clause-turn
+returns-in_err-note-clause-turn g c =
     let s = c.args.sheet.now in
     let low : c.args.store < (held s).limit = subst (λ x. c.args.store < (graph x).limit) c.tables.ensures c.if-store-tables.false in
     let fit = sym c.if-not-fits.ensures in
-    let why = nothing low fit (sym c.next.ensures ∙ c.in_default.is) in
-    (why, fetch_not_accepted g.K.Ranking.atleast g.met.K.Ranking.lawful (held s) why, refl)
+    let p = err_from_is_err_and c.from_residual.result c.from_residual.ensures.1 in
+    let refused = rw c.in_err-note.ensures.ok_part at c.in_err-note.ensures.value in
+    let fault : c.in_err-note.field-0.0 ≡ (NothingWaits, c.args.store) = cc in
+    let why = nothing low fit (sym c.next.ensures ∙ c.in_err-note.ensures.ok_part) in
+    rw (p.1, p.2, fault) (why, fetch_not_accepted g.K.Ranking.atleast g.met.K.Ranking.lawful (held s) why, refl)
 
-pub returns-in_default-entry_for-clause-turn : goal.returns-in_default-entry_for-clause-turn
-returns-in_default-entry_for-clause-turn g c =
+pub returns-in_err-kind-clause-turn : goal.returns-in_err-kind-clause-turn
+returns-in_err-kind-clause-turn g c =
     let s = c.args.sheet.now in
     let low : c.args.store < (held s).limit = subst (λ x. c.args.store < (graph x).limit) c.tables.ensures c.if-store-tables.false in
     let fit = sym c.if-not-fits.ensures in
-    let next = sym c.next.ensures ∙ c.in-Some.is in
-    let why = stray_note low fit next c.in_default-entry_for.ensures in
-    (why, fetch_not_accepted g.K.Ranking.atleast g.met.K.Ranking.lawful (held s) why, refl)
+    let next = sym c.next.ensures ∙ c.in_ok-note.ensures.ok_part in
+    let p = err_from_is_err_and c.from_residual-in_err-kind.result c.from_residual-in_err-kind.ensures.1 in
+    let refused = rw c.in_err-kind.ensures.ok_part at c.in_err-kind.ensures.value in
+    let fault : c.in_err-kind.field-0.0 ≡ (StrayNote, c.args.store) = cc in
+    let why = stray_note low fit next (rw c.in_err-kind.ensures.ok_part at c.entry_for.ensures) in
+    rw (p.1, p.2, fault) (why, fetch_not_accepted g.K.Ranking.atleast g.met.K.Ranking.lawful (held s) why, refl)
 
 pub returns-then-strays-clause-turn : goal.returns-then-strays-clause-turn
 returns-then-strays-clause-turn g c =
@@ -46,48 +54,52 @@ returns-then-strays-clause-turn g c =
     let w = world g.L.Line.waiting g.L.Line.capacity g.L.Line.chosen c.args.round.now c.args.board.now.records.now c.args.board.now.marks.now c.args.board.now.line.now in
     let low : c.args.store < (held s).limit = subst (λ x. c.args.store < (graph x).limit) c.tables.ensures c.if-store-tables.false in
     let fit = sym c.if-not-fits.ensures in
-    let next = sym c.next.ensures ∙ c.in-Some.is in
+    let next = sym c.next.ensures ∙ c.in_ok-note.ensures.ok_part in
     let facts = fits_facts (held s) w fit in
-    let comes = c.in-Some-entry_for.ensures in
-    let below = comes_parcel g.K.Ranking.atleast (held s) (held_sound s) c.args.store c.in-Some.note comes.0 in
-    let strays = c.unwrap_or-strays.ensures ∙ ap (λ o. unwrap_or o true) c.strays.ensures ∙ strays_here (held s) c.args.board.now.records.now c.in-Some.note.addressee facts.records_long below in
+    let comes = rw c.in_ok-kind.ensures.ok_part at c.entry_for.ensures in
+    let below = comes_parcel g.K.Ranking.atleast (held s) (held_sound s) c.args.store c.in_ok-note.note comes.0 in
+    let strays = c.unwrap_or-strays.ensures ∙ ap (λ o. unwrap_or o true) c.strays.ensures ∙ strays_here (held s) c.args.board.now.records.now c.in_ok-note.note.addressee facts.records_long below in
     let why = wrong_record low fit next comes.0 (sym strays ∙ c.if-strays.true) in
     (why, fetch_not_accepted g.K.Ranking.atleast g.met.K.Ranking.lawful (held s) why, refl)
 
-pub receive-requires : goal.receive-requires
-receive-requires g c =
+pub receive-received-requires : goal.receive-received-requires
+receive-received-requires g c =
     let s = c.args.sheet.now in
     let w = world g.L.Line.waiting g.L.Line.capacity g.L.Line.chosen c.args.round.now c.args.board.now.records.now c.args.board.now.marks.now c.args.board.now.line.now in
     let fit = sym c.if-not-fits.ensures in
-    let next = sym c.next.ensures ∙ c.in-Some.is in
+    let next = sym c.next.ensures ∙ c.in_ok-note.ensures.ok_part in
     let facts = fits_facts (held s) w fit in
-    let comes = c.in-Some-entry_for.ensures in
-    let here = handed_store (g.L.Line.waiting c.args.board.now.line.now) (g.L.Line.capacity c.args.board.now.line.now) (g.L.Line.chosen c.args.board.now.line.now) (g.L.Line.lawful c.args.board.now.line.now) c.args.store c.in-Some.note next in
+    let comes = rw c.in_ok-kind.ensures.ok_part at c.entry_for.ensures in
+    let here = handed_store (g.L.Line.waiting c.args.board.now.line.now) (g.L.Line.capacity c.args.board.now.line.now) (g.L.Line.chosen c.args.board.now.line.now) (g.L.Line.lawful c.args.board.now.line.now) c.args.store c.in_ok-note.note next in
     record {
       kind = comes.1;
-      comes = subst (λ x. stray g.K.Ranking.atleast (held s) x c.in-Some.note ≡ false) (sym here) comes.0;
+      comes = subst (λ x. stray g.K.Ranking.atleast (held s) x c.in_ok-note.note ≡ false) (sym here) comes.0;
       entry = comes.2;
       long = facts.marks_long;
-      handed = subst (λ x. g.L.Line.chosen c.args.board.now.line.now x ≡ Some c.in-Some.note) (sym here) next;
+      handed = subst (λ x. g.L.Line.chosen c.args.board.now.line.now x ≡ Some c.in_ok-note.note) (sym here) next;
     }
 
-pub returns-in_default-receive-clause-turn : goal.returns-in_default-receive-clause-turn
-returns-in_default-receive-clause-turn g c =
+pub returns-in_err-now_is-clause-turn : goal.returns-in_err-now_is-clause-turn
+returns-in_err-now_is-clause-turn g c =
     let s = c.args.sheet.now in
     let w = world g.L.Line.waiting g.L.Line.capacity g.L.Line.chosen c.args.round.now c.args.board.now.records.now c.args.board.now.marks.now c.args.board.now.line.now in
     let low : c.args.store < (held s).limit = subst (λ x. c.args.store < (graph x).limit) c.tables.ensures c.if-store-tables.false in
     let fit = sym c.if-not-fits.ensures in
-    let next = sym c.next.ensures ∙ c.in-Some.is in
+    let next = sym c.next.ensures ∙ c.in_ok-note.ensures.ok_part in
     let facts = fits_facts (held s) w fit in
-    let comes = c.in-Some-entry_for.ensures in
-    let below = comes_parcel g.K.Ranking.atleast (held s) (held_sound s) c.args.store c.in-Some.note comes.0 in
-    let strays = c.unwrap_or-strays.ensures ∙ ap (λ o. unwrap_or o true) c.strays.ensures ∙ strays_here (held s) c.args.board.now.records.now c.in-Some.note.addressee facts.records_long below in
-    let none = c.in_default-receive.ensures in
+    let comes = rw c.in_ok-kind.ensures.ok_part at c.entry_for.ensures in
+    let below = comes_parcel g.K.Ranking.atleast (held s) (held_sound s) c.args.store c.in_ok-note.note comes.0 in
+    let strays = c.unwrap_or-strays.ensures ∙ ap (λ o. unwrap_or o true) c.strays.ensures ∙ strays_here (held s) c.args.board.now.records.now c.in_ok-note.note.addressee facts.records_long below in
+    let none = rw c.in_err-now_is.ensures.ok_part at c.receive-received.ensures in
     let many = none.0 in
-    let why = fetch_room low fit next comes.0 (sym strays ∙ c.if-strays.false) many.receives many.over in (
+    let p = err_from_is_err_and c.from_residual-in_err-now_is.result c.from_residual-in_err-now_is.ensures.1 in
+    let refused = rw c.in_err-now_is.ensures.ok_part at c.in_err-now_is.ensures.value in
+    let fault : c.in_err-now_is.field-0.0 ≡ (NoRoom, c.in_ok-note.note.addressee) = cc in
+    let why = fetch_room low fit next comes.0 (sym strays ∙ c.if-strays.false) many.receives many.over in
+    rw (p.1, p.2, fault) (
       why,
       fetch_not_accepted g.K.Ranking.atleast g.met.K.Ranking.lawful (held s) why,
-      ap (λ m. world g.L.Line.waiting g.L.Line.capacity g.L.Line.chosen c.args.round.now c.args.board.now.records.now m c.receive.new.line) none.1
+      ap (λ m. world g.L.Line.waiting g.L.Line.capacity g.L.Line.chosen c.args.round.now c.args.board.now.records.now m c.receive-received.new.line) none.1
           ∙ ap (λ l. world g.L.Line.waiting g.L.Line.capacity g.L.Line.chosen c.args.round.now c.args.board.now.records.now c.args.board.now.marks.now l) none.2,
     )
 
@@ -97,24 +109,24 @@ returns-clause-turn g c =
     let w = world g.L.Line.waiting g.L.Line.capacity g.L.Line.chosen c.args.round.now c.args.board.now.records.now c.args.board.now.marks.now c.args.board.now.line.now in
     let low : c.args.store < (held s).limit = subst (λ x. c.args.store < (graph x).limit) c.tables.ensures c.if-store-tables.false in
     let fit = sym c.if-not-fits.ensures in
-    let next = sym c.next.ensures ∙ c.in-Some.is in
+    let next = sym c.next.ensures ∙ c.in_ok-note.ensures.ok_part in
     let facts = fits_facts (held s) w fit in
-    let comes = c.in-Some-entry_for.ensures in
-    let below = comes_parcel g.K.Ranking.atleast (held s) (held_sound s) c.args.store c.in-Some.note comes.0 in
-    let strays = c.unwrap_or-strays.ensures ∙ ap (λ o. unwrap_or o true) c.strays.ensures ∙ strays_here (held s) c.args.board.now.records.now c.in-Some.note.addressee facts.records_long below in
-    let did = c.in-Some-receive.ensures in
+    let comes = rw c.in_ok-kind.ensures.ok_part at c.entry_for.ensures in
+    let below = comes_parcel g.K.Ranking.atleast (held s) (held_sound s) c.args.store c.in_ok-note.note comes.0 in
+    let strays = c.unwrap_or-strays.ensures ∙ ap (λ o. unwrap_or o true) c.strays.ensures ∙ strays_here (held s) c.args.board.now.records.now c.in_ok-note.note.addressee facts.records_long below in
+    let did = rw c.in_ok-now_is.ensures.ok_part at c.receive-received.ensures in
     let took = did.0 in
     let turn = c.count_turn.ensures in
     record {
       accepted = record {
         store = low;
         fitting = fit;
-        note = c.in-Some.note;
+        note = c.in_ok-note.note;
         next = next;
         comes = comes.0;
         right = sym strays ∙ c.if-strays.false;
-        record' = c.in-Some-receive.now_is;
-        marks' = c.receive.new.marks;
+        record' = c.in_ok-now_is.now_is;
+        marks' = c.receive-received.new.marks;
         out = took.out;
         receives = took.receives;
         room = omega (arith, took.many, took.room);
