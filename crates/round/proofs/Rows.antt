@@ -1,11 +1,17 @@
 -- One place more of a row, as a loop goes through it. Assumes nothing.
-use Rattle.std.proofs.Common.{◌≡◌, ℕ, zero, suc, ◌+◌, ◌-◌, ◌≤◌, Bool, true, false, cond, List, [], ◌∷◌, ◌++◌, length, filter, sym, refl, ap, ◌∙◌, subst, arith}
+use Rattle.std.proofs.Common.{◌≡◌, ℕ, zero, suc, ◌+◌, ◌-◌, ◌<◌, ◌≤◌, Bool, true, false, cond, List, [], ◌∷◌, ◌++◌, length, filter, sym, refl, ap, ◌∙◌, subst, arith}
 use Rattle.std.specs.List.{range_with_len}
 use Rattle.std.specs.List.Sorted.{IsPermutation}
+use Rattle.std.proofs.lemmas.Bool.{lt-ltb}
 use Rattle.std.proofs.lemmas.List.Elements.{filter-append}
 use Rattle.std.proofs.lemmas.List.{length-append, append-nil}
 use Rattle.std.proofs.lemmas.List.Sorted.{IsPermutation-refl, IsPermutation-cons, IsPermutation-swap, IsPermutation-trans}
+use Rattle.sheet.specs.Graph.{Graph, parcels, row, row_start, row_end}
 use Rattle.protocol.specs.Marks.{places_from}
+
+-- the row of a parcel lies between its two ends
+pub row_ends : {K : Type 0} (t : Graph K) (u : ℕ) → u < parcels t → ((row t u).start ≡ row_start t u) × ((row t u).end ≡ row_end t u)
+row_ends t u below = rw (lt-ltb u (parcels t) below) (refl, refl)
 
 -- the places from p on, one more
 pub places_more : (k p : ℕ) → places_from (k + 1) p ≡ places_from k p ++ (p + k) ∷ []

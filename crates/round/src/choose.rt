@@ -1,6 +1,6 @@
 ghost use Rattle.std.specs.Prelude.{◌≡◌, ◌+◌, ◌<◌, ◌≤◌, true, not, ◌&&◌, ◌∷◌, length, ◌==◌};
 ghost use Rattle.std.specs.List.Sorted.{IsPermutation};
-ghost use Rattle.sheet.specs.Graph.{InRow, parcels, entries, row_start, row_end};
+ghost use Rattle.sheet.specs.Graph.{InRow, parcels, entries};
 ghost use Rattle.sheet.specs.Held.{held};
 ghost use Rattle.line.specs.Kinds as kinds;
 ghost use Rattle.records.specs.States as states;
@@ -13,7 +13,6 @@ use line::{Kind, Line, Note};
 use ranking::Ranking;
 use records::{Record, State};
 use sheet::Sheet;
-use std::ops::Range;
 
 // Masks and no enum: a mark is a byte that the caller lends, and its other bits are kept.
 
@@ -30,7 +29,7 @@ impl Candidates for OpenEntries<'_> {
     ghost stands = { λ s. open' s.0.now };
 
     fn stands_at(&self, place: usize) -> bool {
-        place >= self.0.len() || self.0[place] & STRUCK == 0
+        self.0.get(place).is_none_or(|mark| mark & STRUCK == 0)
     }
 }
 
@@ -48,14 +47,6 @@ pub(crate) enum Plan {
 // The steps of a turn take the marks and the line one by one: a board would make each say that the records stay. What a step
 // asks of a row or of the marks it asks itself, since that is a fact about the sheet and the marks together. Each step that
 // sends notes promises in a clause of its own, `size`, that the line keeps its capacity.
-
-// The places of a parcel's row, said by their two ends.
-fn row<K: Copy>(sheet: &Sheet<K>, u: usize) -> Range<usize>
-    requires { u < parcels (held sheet.now) }
-    ensures { (result.start ≡ row_start (held sheet.now) u) × (result.end ≡ row_end (held sheet.now) u) }
-{
-    sheet.row(u)
-}
 
 // A note along the entry at place `p` of row `u`.
 fn note_along<K: Copy>(sheet: &Sheet<K>, kind: Kind, u: usize, p: usize) -> Note
@@ -101,7 +92,7 @@ pub(crate) fn count_open_others<K: Copy>(
     requires long { length marks.now ≡ entries (held sheet.now) }
     ensures { result ≡ length (open_others (held sheet.now) marks.now u keep) }
 {
-    let others = row(sheet, u).filter(|q| other_open(marks, *q, keep));
+    let others = sheet.row(u).filter(|q| other_open(marks, *q, keep));
     others.count() as u32
 }
 
@@ -140,7 +131,7 @@ pub(crate) fn let_go<K: Copy, L: Line>(
     ensures done { LetGo (held sheet.now) u keep marks.old marks.new (L.Line.waiting line.old) (L.Line.waiting line.new) }
     ensures size { L.Line.capacity line.new ≡ L.Line.capacity line.old }
 {
-    for q in row(sheet, u) {
+    for q in sheet.row(u) {
         drop_other(sheet, marks, line, u, keep, q);
     }
 }
@@ -178,7 +169,7 @@ pub(crate) fn with_choice<K: Copy>(sheet: &Sheet<K>, state: State, u: usize, p: 
     requires { InRow (held sheet.now) u p }
     ensures { result ≡ with_choice (held sheet.now) (states.code state) u p }
 {
-    Record::new(state, (p - row(sheet, u).start) as u32)
+    Record::new(state, (p - sheet.row(u).start) as u32)
 }
 
 // Carries out a plan for which there is room: what it sends goes on the line. Answers the parcel's record.

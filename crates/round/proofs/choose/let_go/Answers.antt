@@ -4,6 +4,7 @@ use Rattle.sheet.specs.Graph.{InRow, row_start, row_end}
 use Rattle.sheet.proofs.Facts.{parcel_facts}
 use Rattle.sheet.proofs.Held.{held_sound}
 use Rattle.pairing.proofs.Entries.{place_below}
+use Rattle.round.proofs.Rows.{row_ends}
 use Rattle.round.proofs.Going.{Going, going_start, going_room, going_step, going_end}
 use Rattle.round.proofs.choose.let_go.Goals as goal
 
@@ -14,8 +15,9 @@ loop-q-init g c =
     let m = c.args.marks.now in
     let w = g.L.Line.waiting c.args.line.now in
     let row = parcel_facts t c.args.u ((held_sound s).parcel c.args.u c.requires.parcel) in
-    let first : row_start t c.args.u ≡ c.into_iter-q-iterator.result.start = sym (ap (λ r. r.start) c.into_iter-q-iterator.ensures.into_iter_gives ∙ c.row-q-items.ensures.0) in
-    let last : c.into_iter-q-iterator.result.end ≡ row_end t c.args.u = ap (λ r. r.end) c.into_iter-q-iterator.ensures.into_iter_gives ∙ c.row-q-items.ensures.1 in
+    let ends = row_ends t c.args.u c.requires.parcel in
+    let first : row_start t c.args.u ≡ c.into_iter-q-iterator.result.start = sym (ap (λ r. r.start) (c.into_iter-q-iterator.ensures.into_iter_gives ∙ c.row-q-items.ensures) ∙ ends.0) in
+    let last : c.into_iter-q-iterator.result.end ≡ row_end t c.args.u = ap (λ r. r.end) (c.into_iter-q-iterator.ensures.into_iter_gives ∙ c.row-q-items.ensures) ∙ ends.1 in
     (subst (λ q. Going t c.args.u c.args.keep m w q m w) first (going_start t c.args.u c.args.keep m w c.requires.parcel), refl, omega (arith, first), omega (arith, first, last, row.forward), last)
 
 pub drop_other-requires-clause-room : goal.drop_other-requires-clause-room
