@@ -1,5 +1,7 @@
 -- Runs: which turn comes next, and how a run ends. Assumes nothing.
-use Rattle.std.specs.Prelude.{◌≡◌, ℕ, suc, ◌<◌, Bool, true, false, is_some, None, ◌≢◌}
+use Rattle.std.specs.Prelude.{◌≡◌, ℕ, suc, ◌<◌, Bool, true, false, List, is_some, None, Option, ◌≢◌}
+use Rattle.line.specs.declared.Note.{Note}
+use Rattle.records.specs.declared.record.Record.{Record}
 use Rattle.records.specs.Records.{state}
 use Rattle.sheet.specs.Graph.{Graph, parcels}
 use Rattle.protocol.specs.World.{World, fits}
@@ -7,10 +9,18 @@ use Rattle.protocol.specs.Turns.{Started, StartRefused, Fetched, FetchRefused}
 use Rattle.protocol.specs.declared.Ending.{Ending}
 use Rattle.protocol.specs.declared.Ending.TheVariants.{Still, Spent, Refused}
 
+-- no parcel below u is idle by these records
+abbrev pub NoIdleBelow : List Record → ℕ → Type 0
+NoIdleBelow rs u = (v : ℕ) → v < u → state rs v ≢ 0
+
+-- no store below s would be handed a note
+abbrev pub NoNoteBelow : (ℕ → Option Note) → ℕ → Type 0
+NoNoteBelow chosen s = (r : ℕ) → r < s → chosen r ≡ None
+
 module _ {K : Type 0} (t : Graph K) (w : World) where
   -- no parcel below u is idle
   abbrev pub NoneIdle : ℕ → Type 0
-  NoneIdle u = (v : ℕ) → v < u → state w.records v ≢ 0
+  NoneIdle u = NoIdleBelow w.records u
 
   -- u is the lowest idle parcel
   pub record LowestIdle (u : ℕ) : Type 0 where
@@ -20,7 +30,7 @@ module _ {K : Type 0} (t : Graph K) (w : World) where
 
   -- no note waits for a store below s
   abbrev pub NoneWaiting : ℕ → Type 0
-  NoneWaiting s = (r : ℕ) → r < s → w.next r ≡ None
+  NoneWaiting s = NoNoteBelow w.next s
 
   -- no parcel is idle, and s is the lowest store with a note
   pub record LowestStore (s : ℕ) : Type 0 where

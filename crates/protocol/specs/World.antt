@@ -19,11 +19,15 @@ pub record World : Type 0 where
   pub capacity : ℕ
   pub next : ℕ → Option Note
 
+-- tables of these two lengths have the sheet's, and a round of these three sizes has its
+abbrev pub sizes_fit : {K : Type 0} → Graph K → ℕ → ℕ → ℕ → ℕ → ℕ → Bool
+sizes_fit t records_long marks_long parcel_count entry_count store_count =
+    (records_long == parcels t)
+    && (marks_long == entries t && (parcel_count == parcels t && (entry_count == entries t && store_count == t.limit)))
+
 -- the tables have the sheet's lengths, and the round its sizes
 abbrev pub fits : {K : Type 0} → Graph K → World → Bool
-fits t w =
-    (length w.records == parcels t)
-    && (length w.marks == entries t && (w.parcel_count == parcels t && (w.entry_count == entries t && w.store_count == t.limit)))
+fits t w = sizes_fit t (length w.records) (length w.marks) w.parcel_count w.entry_count w.store_count
 
 -- how many notes the line takes
 abbrev pub free : World → ℕ

@@ -1,12 +1,13 @@
 -- The parts of a turn. Assumes nothing.
-use Rattle.std.specs.Prelude.{◌≡◌, ℕ, ◌+◌, ◌-◌, ◌<◌, ◌≤◌, Bool, true, false, ◌&&◌, List, ◌∷◌, ◌++◌, length, Some, None, Option, ◌==◌, slice_index, slice_set}
+use Rattle.std.specs.Prelude.{◌≡◌, ℕ, ◌+◌, ◌-◌, ◌<◌, ◌≤◌, Bool, true, false, List, ◌∷◌, ◌++◌, length, Some, None, Option, slice_index, slice_set}
 use Rattle.std.specs.List.Sorted.{IsPermutation}
 use Rattle.line.specs.declared.Kind.{Kind}
 use Rattle.line.specs.declared.Note.{Note}
 use Rattle.line.specs.Kinds.{code}
 use Rattle.records.specs.declared.record.Record.{Record}
-use Rattle.sheet.specs.Graph.{Graph, InRow, parcels, entries}
+use Rattle.sheet.specs.Graph.{Graph, InRow}
 use Rattle.choosing.specs.Top.{Top}
+use Rattle.protocol.specs.World.{sizes_fit}
 use Rattle.protocol.specs.Marks.{open', bidden, open_others, drop, strike}
 use Rattle.protocol.specs.Steps.{LetsGo, Chooses, Receives, entry_of}
 use Rattle.protocol.specs.Turns.{counted, stray}
@@ -46,8 +47,7 @@ pub record Chose {K : Type 0} (atleast : K → K → Bool) (t : Graph K) (u : �
 
 -- the tables have the sheet's lengths, and the round its sizes
 abbrev pub tables_fit : {K : Type 0} → Graph K → Round → List Record → List ℕ → Bool
-tables_fit t round rs m =
-    (length rs == parcels t) && (length m == entries t && (round.parcels == parcels t && (round.entries == entries t && round.stores == t.limit)))
+tables_fit t round rs m = sizes_fit t (length rs) (length m) round.parcels round.entries round.stores
 
 -- a parcel in this state cannot start: it has started, or its record is out of range
 pub data Unstartable (s : ℕ) : ℕ → Type 0 where

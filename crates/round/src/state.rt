@@ -10,8 +10,7 @@ use ranking::Ranking;
 use records::{Ledger, Record};
 use sheet::Sheet;
 
-/// An open round: the sizes of the sheet that it was opened on, and its two counts. It is closed by `close` alone,
-/// which takes it.
+/// An open round: the sizes of the sheet that it was opened on, and its two counts. Closing takes it.
 #[derive(Drop)]
 pub struct Round {
     pub(crate) parcels: u32,
@@ -30,6 +29,9 @@ impl Round {
         self.sent = self.sent.saturating_add(sent);
     }
 }
+
+// Round, sheet and board are passed side by side: a struct that holds both a sheet and slices to be written gets no proof where
+// it is made of a function's parameters, and a round is its caller's until closing takes it.
 
 /// What the turns of a round write to: the records of the sheet's parcels, the marks of its entries, and the line.
 #[derive(Drop)]

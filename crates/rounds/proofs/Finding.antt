@@ -5,7 +5,8 @@ use Rattle.line.specs.declared.Note.{Note}
 use Rattle.records.specs.declared.record.Record.{Record}
 use Rattle.records.specs.Records.{state}
 use Rattle.sheet.specs.Graph.{Graph, parcels}
-use Rattle.rounds.specs.Next.{NoIdleBelow, Idle, Store}
+use Rattle.protocol.specs.Runs.{NoIdleBelow}
+use Rattle.rounds.specs.Next.{Idle, Store}
 
 module _ {K : Type 0} (t : Graph K) where
   -- a search of the parcels from one on finds the lowest idle one, if none below is idle

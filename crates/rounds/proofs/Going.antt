@@ -1,7 +1,7 @@
 -- Turns one after the other, as a run makes them. Assumes nothing.
 use Rattle.std.proofs.Common.{◌≡◌, ℕ, suc, ◌+◌, ◌-◌, ◌<◌, ◌≤◌, Bool, true, List, length, is_some, Some, None, Ok, Err, set, ◌≢◌, sym, ap, ◌∙◌, subst, ⊎_elim, arith}
 use Rattle.std.proofs.lemmas.Bool.{true≢false, cases_eq, cases_lt}
-use Rattle.rounds.specs.Next.{NoIdleBelow, Idle, Store, NextTurn, Turned}
+use Rattle.rounds.specs.Next.{Idle, Store, NextTurn, Turned}
 use Rattle.rounds.specs.declared.Turn.{Turn}
 use Rattle.rounds.specs.declared.Turn.TheVariants.{StartOf, FetchFor}
 use Rattle.std.proofs.lemmas.List.{length-set, get_or-set_same, get_or-set_other, get_or_past}
@@ -14,7 +14,7 @@ use Rattle.sheet.specs.Graph.{Graph, parcels}
 use Rattle.protocol.specs.World.{World, fits}
 use Rattle.protocol.specs.Steps.{Chooses, alone, waits, pairs, Receives, hears, agrees, loses, turns}
 use Rattle.protocol.specs.Turns.{Changes, Started, Fetched}
-use Rattle.protocol.specs.Runs.{LowestIdle, LowestStore, Quiet, Ran, still, spent, refused_start, refused_fetch, then_start, then_fetch}
+use Rattle.protocol.specs.Runs.{NoIdleBelow, LowestIdle, LowestStore, Quiet, Ran, still, spent, refused_start, refused_fetch, then_start, then_fetch}
 use Rattle.protocol.specs.declared.Ending.{Ending}
 use Rattle.protocol.specs.declared.Ending.TheVariants.{Still, Spent, Refused}
 use Rattle.protocol.proofs.Holds.{fits_facts, facts_fit}

@@ -1,22 +1,15 @@
 -- Which turn a run makes next. Assumes nothing.
-use Rattle.std.specs.Prelude.{◌≡◌, ℕ, ◌<◌, Bool, true, List, is_some, Some, None, Option, Result, ◌≢◌}
+use Rattle.std.specs.Prelude.{◌≡◌, ℕ, ◌<◌, Bool, true, List, is_some, Some, None, Option, Result}
 use Rattle.faults.specs.declared.Refusal.{Refusal}
 use Rattle.line.specs.declared.Note.{Note}
 use Rattle.records.specs.declared.record.Record.{Record}
 use Rattle.records.specs.Records.{state}
 use Rattle.sheet.specs.Graph.{Graph, parcels}
 use Rattle.protocol.specs.World.{World}
+use Rattle.protocol.specs.Runs.{NoIdleBelow, NoNoteBelow}
 use Rattle.protocol.specs.Turns.{Start, Fetch}
 use Rattle.rounds.specs.declared.Turn.{Turn}
 use Rattle.rounds.specs.declared.Turn.TheVariants.{StartOf, FetchFor}
-
--- no parcel below u is idle by these records
-abbrev pub NoIdleBelow : List Record → ℕ → Type 0
-NoIdleBelow rs u = (v : ℕ) → v < u → state rs v ≢ 0
-
--- no store below s would be handed a note
-abbrev pub NoNoteBelow : (ℕ → Option Note) → ℕ → Type 0
-NoNoteBelow chosen s = (r : ℕ) → r < s → chosen r ≡ None
 
 -- the lowest idle parcel, if there is one
 abbrev pub Idle : {K : Type 0} → Graph K → List Record → Option ℕ → Type 0

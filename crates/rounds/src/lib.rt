@@ -4,12 +4,12 @@
 ghost use Rattle.std.specs.Prelude.{◌≡◌, ◌≤◌, length};
 ghost use Rattle.sheet.specs.Graph.{parcels};
 ghost use Rattle.sheet.specs.Held.{held};
-ghost use Rattle.protocol.specs.Runs.{Ran};
+ghost use Rattle.protocol.specs.Runs.{NoIdleBelow, Ran};
 ghost use Rattle.round.specs.Seen.{seen, SameBoard};
 ghost use Rattle.sheet.specs.Check.{Alike};
 ghost use Rattle.round.specs.Closing.{OpenRefused};
 ghost use Rattle.rounds.specs.Settling.{Ready, Settling, SettlesOrUnopened, DoesNotRefuse};
-ghost use Rattle.rounds.specs.Next.{NoIdleBelow, Idle, Store, NextTurn, Turned};
+ghost use Rattle.rounds.specs.Next.{Idle, Store, NextTurn, Turned};
 
 use faults::{Fault, Refusal};
 use line::Line;

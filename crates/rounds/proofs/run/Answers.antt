@@ -6,7 +6,7 @@ use Rattle.protocol.specs.Runs.{other_sizes}
 use Rattle.protocol.proofs.Holds.{fits_facts}
 use Rattle.round.specs.Seen.{seen}
 use Rattle.round.proofs.Boards.{same_board, same_boards}
-use Rattle.rounds.specs.Next.{NoIdleBelow}
+use Rattle.protocol.specs.Runs.{NoIdleBelow}
 use Rattle.rounds.proofs.Going.{here, busy_below, turned_ok, ends_still, ends_refused, ends_spent, ends_quiet}
 use Rattle.rounds.proofs.run.Goals.{in-StartOf, in-FetchFor}
 use Rattle.rounds.proofs.run.Goals as goal

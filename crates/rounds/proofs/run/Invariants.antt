@@ -2,7 +2,7 @@ use Rattle.std.proofs.Common.{◌≡◌, true}
 use Rattle.sheet.specs.Held.{held}
 use Rattle.protocol.specs.World.{fits}
 use Rattle.round.specs.Seen.{seen, SameBoard}
-use Rattle.rounds.specs.Next.{NoIdleBelow}
+use Rattle.protocol.specs.Runs.{NoIdleBelow}
 use Rattle.rounds.proofs.Going.{Went}
 use Rattle.rounds.proofs.run.Given as goal
 
