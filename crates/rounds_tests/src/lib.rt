@@ -9,7 +9,7 @@ mod tests {
     use outright::pair_outright;
     use protocol::Ending;
     use ranking::Cents;
-    use records::{Record, Tally, Totals};
+    use records::{Record, State, Tally, Totals};
     use round::{Board, close, fetch, open, start};
     use rounds::{run, settle};
     use sheet::{Sheet, Tables, check as check_sheet};
@@ -67,16 +67,12 @@ mod tests {
         assert_eq!(rt; missing.map_err(numbered), Err((9, 4)));
         let far = fetch(&mut round, &sheet, &mut board, 2);
         assert_eq!(rt; far.map_err(numbered), Err((10, 2)));
-        assert_eq!(rt; records[1].state, 1);
-        assert_eq!(rt; records[2].state, 2);
+        assert!(rt; records[1].is(State::Waits));
+        assert!(rt; records[2].is(State::Paired));
         assert_eq!(rt; line.free(), 4);
-        match close(round, &sheet, &records, &marks, &line) {
-            Ok(_) => Err(Fail::new("closed")),
-            Err((_, fault)) => {
-                assert_eq!(rt; numbered(fault), (18, 0));
-                Ok(())
-            },
-        }
+        let closed = close(round, &sheet, &records, &marks, &line);
+        assert_eq!(rt; closed.map_err(|(_, fault)| numbered(fault)), Err((18, 0)));
+        Ok(())
     }
 
     // What open refuses: a line with too little room, and one that is not empty.
@@ -93,8 +89,9 @@ mod tests {
             marks: &mut marks,
             line: &mut line,
         };
-        assert!(rt; settle(&sheet, &mut board).is_err());
-        assert!(rt; records[0] == ODD);
+        let settled = settle(&sheet, &mut board);
+        assert_eq!(rt; settled.map_err(numbered), Err((11, 0)));
+        assert_eq!(rt; records, [ODD; 4]);
         let mut more = [BLANK; 6];
         let mut full = Pigeonholes::new(&mut more, 6);
         full.put(Note {
@@ -103,13 +100,9 @@ mod tests {
             store: 0,
             kind: u8::from(Kind::Bid),
         })?;
-        match open(&sheet, &mut records, &mut marks, &full) {
-            Ok(_) => Err(Fail::new("opened")),
-            Err(fault) => {
-                assert_eq!(rt; numbered(fault), (11, 0));
-                Ok(())
-            },
-        }
+        let opened = open(&sheet, &mut records, &mut marks, &full);
+        assert_eq!(rt; opened.err().map(numbered), Some((11, 0)));
+        Ok(())
     }
 
     // Both kinds of line and outright pairing come to the same records.
@@ -145,8 +138,8 @@ mod tests {
         let mut outright = [ODD; 4];
         let mut worklist = [0; 4];
         pair_outright(&sheet, &mut outright, &mut worklist)?;
-        assert!(rt; by_queue == by_holes);
-        assert!(rt; by_queue == outright);
+        assert_eq!(rt; by_queue, by_holes);
+        assert_eq!(rt; by_queue, outright);
         Ok(())
     }
 
@@ -165,26 +158,23 @@ mod tests {
             marks: &mut marks,
             line: &mut line,
         };
-        let (made, ending) = run(&mut round, &sheet, &mut board, 9);
-        assert_eq!(rt; made, 9);
-        assert!(rt; matches!(ending, Ending::Spent));
+        assert_eq!(rt; run(&mut round, &sheet, &mut board, 9), (9, Ending::Spent));
         let mut short = [0; 5];
         let mut other = Board {
             records: &mut records,
             marks: &mut short,
             line: &mut line,
         };
-        let (none, refused) = run(&mut round, &sheet, &mut other, 9);
-        assert_eq!(rt; none, 0);
-        assert!(rt; matches!(refused, Ending::Refused(12, 0)));
+        assert_eq!(rt;
+            run(&mut round, &sheet, &mut other, 9),
+            (0, Ending::Refused(12, 0))
+        );
         let mut board = Board {
             records: &mut records,
             marks: &mut marks,
             line: &mut line,
         };
-        let (one, still) = run(&mut round, &sheet, &mut board, 9);
-        assert_eq!(rt; one, 1);
-        assert!(rt; matches!(still, Ending::Still));
+        assert_eq!(rt; run(&mut round, &sheet, &mut board, 9), (1, Ending::Still));
         assert!(rt; close(round, &sheet, &records, &marks, &line).is_ok());
         Ok(())
     }
@@ -199,13 +189,7 @@ mod tests {
             marks: &mut [],
             line: &mut line,
         };
-        let totals = settle(&sheet, &mut board)?;
-        let expected = Totals {
-            tally: Tally { pairs: 0, lone: 0 },
-            sent: 0,
-            turns: 0,
-        };
-        assert_eq!(rt; totals, expected);
+        assert_eq!(rt; settle(&sheet, &mut board)?, Totals::default());
         Ok(())
     }
 }
