@@ -29,7 +29,7 @@ pub struct EntryLine<K> {
 fn next_numbers<const N: usize>(lines: &mut Lines<'_>) -> Option<[u32; N]>
     ensures { elim result [ Some vs ↦ Begins (vs ∷ []) (left lines.old) (left lines.new) × (length vs ≡ N) | None ↦ ((vs rest : List ℕ) → length vs ≡ N → Begins (vs ∷ []) (left lines.old) rest → ⊥) ] }
 {
-    numbers(lines.next_line()?)
+    numbers(lines.next()?)
 }
 
 // The sizes in the next line; none where it has not the form.

@@ -304,15 +304,15 @@ mod tests {
     #[test]
     fn parts_of_a_text(rt: HostRuntime) -> Result<(), Fail> {
         let mut lines = Lines::new(b"4,,60\n7\n8");
-        let line = lines.next_line().ok_or("no line")?;
+        let line = lines.next().ok_or("no line")?;
         assert_eq!(rt; line, part(b"4,,60", 0, 1));
         let mut fields = Fields::new(line);
-        assert_eq!(rt; fields.next_field(), Some(part(b"4", 0, 1)));
-        assert_eq!(rt; fields.next_field(), Some(part(b"", 2, 1)));
-        assert_eq!(rt; fields.next_field(), Some(part(b"60", 3, 1)));
-        assert_eq!(rt; fields.next_field(), None);
-        assert_eq!(rt; lines.next_line(), Some(part(b"7", 6, 2)));
-        assert_eq!(rt; lines.next_line(), None);
+        assert_eq!(rt; fields.next(), Some(part(b"4", 0, 1)));
+        assert_eq!(rt; fields.next(), Some(part(b"", 2, 1)));
+        assert_eq!(rt; fields.next(), Some(part(b"60", 3, 1)));
+        assert_eq!(rt; fields.next(), None);
+        assert_eq!(rt; lines.next(), Some(part(b"7", 6, 2)));
+        assert_eq!(rt; lines.next(), None);
         assert!(rt; !lines.is_at_end());
         Ok(())
     }

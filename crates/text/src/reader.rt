@@ -32,22 +32,6 @@ impl<'a> Lines<'a> {
         }
     }
 
-    /// The next line, without the byte 10 that ends it; none where no byte 10 is left.
-    pub fn next_line(&mut self) -> Option<Part<'a>>
-        ensures { LineTaken self.old result self.new }
-    {
-        let rest = &self.text[self.pos..];
-        let end = find(rest, b'\n')?;
-        let line = Part {
-            bytes: &rest[..end],
-            place: self.pos,
-            line: self.number + 1,
-        };
-        self.pos += end + 1;
-        self.number += 1;
-        Some(line)
-    }
-
     /// Whether every byte of the text belongs to a line that was handed out.
     pub fn is_at_end(&self) -> bool
         ensures { Decides result (left self.now ≡ []) }
@@ -63,8 +47,18 @@ impl<'a> Iterator for Lines<'a> {
 
     ghost remaining = { λ lines. at_most (length (left lines)) };
 
+    /// The next line, without the byte 10 that ends it; none where no byte 10 is left.
     fn next(&mut self) -> Option<Part<'a>> {
-        self.next_line()
+        let rest = &self.text[self.pos..];
+        let end = find(rest, b'\n')?;
+        let line = Part {
+            bytes: &rest[..end],
+            place: self.pos,
+            line: self.number + 1,
+        };
+        self.pos += end + 1;
+        self.number += 1;
+        Some(line)
     }
 }
 
@@ -75,11 +69,17 @@ impl<'a> Fields<'a> {
     {
         Fields { rest: Some(line) }
     }
+}
+
+impl<'a> Iterator for Fields<'a> {
+    type Item = Part<'a>;
+
+    ghost next_gives = { λ was field is. NextField was.rest field is.rest };
+
+    ghost remaining = { λ fields. at_most (unread fields.rest) };
 
     /// The next field; none past the last one. An empty line has one field, which is empty.
-    pub fn next_field(&mut self) -> Option<Part<'a>>
-        ensures { NextField self.old.rest result self.new.rest }
-    {
+    fn next(&mut self) -> Option<Part<'a>> {
         let part = self.rest?;
         match find(part.bytes, b',') {
             Some(end) => {
@@ -101,18 +101,6 @@ impl<'a> Fields<'a> {
     }
 }
 
-impl<'a> Iterator for Fields<'a> {
-    type Item = Part<'a>;
-
-    ghost next_gives = { λ was field is. NextField was.rest field is.rest };
-
-    ghost remaining = { λ fields. at_most (unread fields.rest) };
-
-    fn next(&mut self) -> Option<Part<'a>> {
-        self.next_field()
-    }
-}
-
 /// The numbers of a line that has just `N` fields, each a number; none where it has not.
 pub fn numbers<const N: usize>(line: Part<'_>) -> Option<[u32; N]>
     ensures { elim result [ Some vs ↦ (length vs ≡ N) × OnlyValues vs line.entry.bytes.now | None ↦ ((vs : List ℕ) → length vs ≡ N → Values vs line.entry.bytes.now → ⊥) ] }
@@ -120,11 +108,8 @@ pub fn numbers<const N: usize>(line: Part<'_>) -> Option<[u32; N]>
     let mut fields = Fields::new(line);
     let mut values = [0; N];
     for value in &mut values {
-        let field = fields.next_field()?;
+        let field = fields.next()?;
         *value = number(field.bytes)?;
     }
-    match fields.next_field() {
-        Some(_) => None,
-        None => Some(values),
-    }
+    fields.next().is_none().then_some(values)
 }

@@ -1,10 +1,10 @@
 use Rattle.std.proofs.Common.{◌≡◌, ◌+◌, ◌-◌, ◌^◌, min, ◌∷◌, ◌++◌, length, take, sym, refl, ap, ◌∙◌, inr, arith}
 use Rattle.std.proofs.lemmas.List.{take_rest, length-take-le}
 use Rattle.text.proofs.Cuts.{parted_at}
-use Rattle.text.proofs.Fields.next_field.Goals as goal
+use Rattle.text.proofs.reader.FieldsIterator.next.Goals as goal
 
-pub returns-in-Some : goal.returns-in-Some
-returns-in-Some c =
+pub returns-in-Some-clause-steps : goal.returns-in-Some-clause-steps
+returns-in-Some-clause-steps c =
     let bytes = c.in_ok-part.part.bytes.now in
     let end = c.in-Some.end in
     let told = c.in-Some.ensures in
