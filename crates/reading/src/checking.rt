@@ -12,11 +12,11 @@ use faults::{Fault, Refusal};
 use ranking::Ranking;
 use text::Lines;
 
-/// What is left of a text after its first line, and the sizes which that line has and which are within the limits.
+// What is left of a text after its first line, and the sizes which that line has and which are within the limits.
 #[derive(Clone, Copy)]
-pub struct Body<'a> {
-    pub lines: Lines<'a>,
-    pub sizes: Sizes,
+pub(crate) struct Body<'a> {
+    pub(crate) lines: Lines<'a>,
+    pub(crate) sizes: Sizes,
     ghost within: { Within sizes },
 }
 

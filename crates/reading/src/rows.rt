@@ -10,19 +10,19 @@ use super::Sizes;
 use ranking::Ranking;
 use text::{Lines, numbers};
 
-/// A parcel as a line lists it.
+// A parcel as a line lists it.
 #[derive(Clone, Copy)]
-pub struct Parcel {
-    pub store: u32,
-    pub edition: u16,
+pub(crate) struct Parcel {
+    pub(crate) store: u32,
+    pub(crate) edition: u16,
 }
 
-/// An entry as a line lists it: the parcel in whose row it stands, the other parcel, and the key.
+// An entry as a line lists it: the parcel in whose row it stands, the other parcel, and the key.
 #[derive(Clone, Copy)]
-pub struct EntryLine<K> {
-    pub row: u32,
-    pub other: u32,
-    pub key: K,
+pub(crate) struct EntryLine<K> {
+    pub(crate) row: u32,
+    pub(crate) other: u32,
+    pub(crate) key: K,
 }
 
 // The numbers of the next line, of which there are to be just `N`.
