@@ -4,7 +4,7 @@
 
 use faults::Fault;
 use line::Line;
-use lines::{BLANK, Pigeonholes, Queue};
+use lines::{BLANK, NewestFirst, OldestFirst, Order, StoreLine};
 use outright::pair_outright;
 use ranking::Cents;
 use records::{Ledger, Record, Totals};
@@ -14,6 +14,7 @@ use rounds::settle;
 use sheet::{Sheet, Tables, check};
 use std::alloc::{AllocError, Global};
 use std::num::Saturating;
+use std::ops::AddAssign;
 
 const SHEETS: u32 = 4_096;
 
@@ -43,8 +44,8 @@ struct Outcome {
     apart: Saturating<u32>,
 }
 
-impl Outcome {
-    fn add(&mut self, one: Outcome) {
+impl AddAssign for Outcome {
+    fn add_assign(&mut self, one: Outcome) {
         self.pairs += one.pairs;
         self.lone += one.lone;
         self.cents += one.cents;
@@ -78,7 +79,7 @@ fn make_rows(heap: Global, number: u32) -> Result<Rows, AllocError> {
     Ok(rows)
 }
 
-// The records and the totals of rounds over this line.
+// The records and the totals of a round over this line.
 fn settle_over<L: Line>(
     sheet: &Sheet<Cents>,
     line: &mut L,
@@ -95,14 +96,17 @@ fn settle_over<L: Line>(
     Ok((records, totals))
 }
 
+// The same over a line that hands out its notes in this order.
+fn settle_in<O: Order>(sheet: &Sheet<Cents>) -> Result<([Record; 4], Totals), Fault> {
+    let mut slots = [BLANK; MOST_ENTRIES];
+    let mut line: StoreLine<O> = StoreLine::new(&mut slots, MOST_ENTRIES as u32);
+    settle_over(sheet, &mut line)
+}
+
 // Pairs a sheet in the three ways.
 fn pair(sheet: &Sheet<Cents>) -> Result<Outcome, Fault> {
-    let mut slots = [BLANK; MOST_ENTRIES];
-    let mut queue = Queue::new(&mut slots, MOST_ENTRIES as u32);
-    let (by_queue, totals) = settle_over(sheet, &mut queue)?;
-    let mut holes = [BLANK; MOST_ENTRIES];
-    let mut pigeonholes = Pigeonholes::new(&mut holes, MOST_ENTRIES as u32);
-    let (by_holes, _) = settle_over(sheet, &mut pigeonholes)?;
+    let (by_queue, totals) = settle_in::<OldestFirst>(sheet)?;
+    let (by_holes, _) = settle_in::<NewestFirst>(sheet)?;
     let mut outright = [Record::IDLE; 4];
     pair_outright(sheet, &mut outright, &mut [0; 4])?;
     Ok(Outcome {
@@ -116,7 +120,7 @@ fn pair(sheet: &Sheet<Cents>) -> Result<Outcome, Fault> {
     })
 }
 
-// Checks and pairs the sheet of this number.
+// Checks and pairs the sheet of this number. A refusal is counted and the next sheet tried, while no memory ends the program.
 fn try_sheet(heap: Global, number: u32) -> Result<Result<Outcome, Fault>, AllocError> {
     let rows = make_rows(heap, number)?;
     let tables = Tables {
@@ -137,7 +141,7 @@ fn main(rt: HostRuntime) -> anyhow::Result<()> {
     let mut all = Outcome::default();
     for number in 0..SHEETS {
         match try_sheet(rt.alloc(), number)? {
-            Ok(one) => all.add(one),
+            Ok(one) => all += one,
             Err(_) => refused = refused.saturating_add(1),
         }
     }

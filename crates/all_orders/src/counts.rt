@@ -36,7 +36,8 @@ pub struct Counts {
     pub cents: Saturating<u64>,
     pub outright: Saturating<u32>,
     pub rounds: Saturating<u32>,
-    pub fewest: u32,
+    /// Of a round; none before the first.
+    pub fewest: Option<u32>,
     pub most: u32,
     /// Closes and starts that were refused, as they had to be.
     pub closes: Saturating<u32>,
@@ -72,14 +73,6 @@ fn fetches_half(expected: &Expected, settled: &Settled) -> bool
 }
 
 impl Counts {
-    /// Nothing counted yet.
-    pub fn none() -> Counts {
-        Counts {
-            fewest: u32::MAX,
-            ..Counts::default()
-        }
-    }
-
     /// Counts a sheet.
     pub fn add_sheet(&mut self, expected: &Expected) {
         self.sheets += 1;
@@ -106,8 +99,9 @@ impl Counts {
     {
         let course = settled.course;
         self.rounds += 1;
-        self.fewest = self.fewest.min(course.totals.sent);
-        self.most = self.most.max(course.totals.sent);
+        let sent = course.totals.sent;
+        self.fewest = Some(self.fewest.map_or(sent, |fewest| fewest.min(sent)));
+        self.most = self.most.max(sent);
         self.closes += course.closes;
         self.starts += course.starts;
         self.apart += u32::from(settled.records != expected.records);

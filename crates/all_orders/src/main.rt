@@ -12,20 +12,20 @@ mod trial;
 use counts::Counts;
 use small::SHEETS;
 use std::io;
-use trial::{LAYOUT_COUNT, ORDER_COUNT, try_sheet};
+use trial::{LAYOUTS, ORDERS, try_sheet};
 
 // What was counted, by name.
 fn facts(counts: &Counts) -> [(&'static str, u64); 16] {
     [
         ("sheets", u64::from(counts.sheets.0)),
-        ("layouts of stores", LAYOUT_COUNT as u64),
-        ("orders of calls", ORDER_COUNT as u64),
+        ("layouts of stores", LAYOUTS.len() as u64),
+        ("orders of calls", ORDERS.len() as u64),
         ("outright pairings", u64::from(counts.outright.0)),
         ("rounds", u64::from(counts.rounds.0)),
         ("pairs", u64::from(counts.pairs.0)),
         ("lone parcels", u64::from(counts.lone.0)),
         ("cents", counts.cents.0),
-        ("fewest notes of a round", u64::from(counts.fewest)),
+        ("fewest notes of a round", u64::from(counts.fewest.unwrap_or(0))),
         ("most notes of a round", u64::from(counts.most)),
         ("closes refused before the end", u64::from(counts.closes.0)),
         (
@@ -47,7 +47,7 @@ fn print_facts(rt: &impl Print, counts: &Counts) -> io::Result<()> {
 }
 
 fn main(rt: HostRuntime) -> anyhow::Result<()> {
-    let mut counts = Counts::none();
+    let mut counts = Counts::default();
     for number in 0..SHEETS {
         try_sheet(rt.alloc(), &mut counts, number)?;
     }

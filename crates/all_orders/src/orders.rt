@@ -13,7 +13,7 @@ const MOST_TURNS: u32 = PARCELS + MOST_ENTRIES as u32;
 
 /// An order of calls: an enum, so that the orders can stand in a static table.
 #[derive(Clone, Copy)]
-pub enum Order {
+pub enum CallOrder {
     /// A run until the round is still.
     InOneRun,
     /// All starts, from the highest parcel down; then fetches, each for the highest store that a note waits for.
@@ -124,24 +124,24 @@ fn with_refusals<L: Line>(
 /// Takes an open round to its close in this order. No answer where a call is refused that has to be accepted, or the
 /// other way round: no caller asks which, since all such rounds are counted alike.
 pub fn play<L: Line>(
-    order: Order,
+    order: CallOrder,
     mut round: Round,
     sheet: &Sheet<Cents>,
     board: &mut Board<'_, L>,
 ) -> Option<Course> {
     match order {
-        Order::InOneRun => {
+        CallOrder::InOneRun => {
             let _ = run(&mut round, sheet, board, u32::MAX);
         }
-        Order::StartsFirst => {
+        CallOrder::StartsFirst => {
             let pick = |to_start: Option<Turn>, to_fetch| to_start.or(to_fetch);
             take_turns(pick, &mut round, sheet, board).ok()?;
         }
-        Order::FetchesFirst => {
+        CallOrder::FetchesFirst => {
             let pick = |to_start, to_fetch: Option<Turn>| to_fetch.or(to_start);
             take_turns(pick, &mut round, sheet, board).ok()?;
         }
-        Order::WithRefusals => return with_refusals(round, sheet, board),
+        CallOrder::WithRefusals => return with_refusals(round, sheet, board),
     }
     let totals = board.close(round, sheet).ok()?;
     Some(Course {

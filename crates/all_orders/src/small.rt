@@ -1,7 +1,7 @@
 //! The sheets of four parcels with keys 0 to 2, and their tables. The program `all_fours` makes them in a way of its own, so that
 //! one mistake does not show in both.
 ghost use Rattle.std.specs.Prelude.{◌≡◌, min};
-ghost use Rattle.all_orders.specs.Pairs.{partner, touching, standing_above};
+ghost use Rattle.all_orders.specs.Pairs.{partner, touching};
 
 use ranking::Cents;
 use std::alloc::{AllocError, Global};
@@ -46,13 +46,6 @@ impl Pair {
             || self.low == with.high
             || self.high == with.low
             || self.high == with.high
-    }
-
-    /// Whether it stands above another pair: by its key, then by the higher parcel, then by the lower.
-    pub fn stands_above(self, below: Pair) -> bool
-        ensures { result ≡ standing_above self below }
-    {
-        self > below
     }
 }
 

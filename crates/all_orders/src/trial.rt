@@ -1,10 +1,10 @@
 //! One sheet through every layout of stores, kind of line and order of calls, held against the definition.
 use crate::counts::{Counts, Expected, Settled};
 use crate::definition::{cents_of, greedy, most_cents, records_of};
-use crate::orders::{Order, play};
+use crate::orders::{CallOrder, play};
 use crate::small::{MOST_ENTRIES, PARCELS, Rows, capped, pairs_of, rows_of};
 use line::Line;
-use lines::{BLANK, Pigeonholes, Queue};
+use lines::{BLANK, NewestFirst, OldestFirst, Order, StoreLine};
 use outright::pair_outright;
 use ranking::Cents;
 use records::{Ledger, Record};
@@ -13,19 +13,14 @@ use round::Board;
 use sheet::{Sheet, Tables, check};
 use std::alloc::{AllocError, Global};
 
-// Which store each parcel lies in.
-struct Layout {
+/// Which store each parcel lies in.
+pub struct Layout {
     stores: [u32; 4],
     count: u32,
 }
 
-/// How many layouts there are.
-pub const LAYOUT_COUNT: usize = 4;
-/// How many orders of calls there are.
-pub const ORDER_COUNT: usize = 4;
-
-// All in one store, each in its own, two and two, and by turns in the first and the last of three.
-static LAYOUTS: [Layout; LAYOUT_COUNT] = [
+/// The layouts: all in one store, each in its own, two and two, and by turns in the first and the last of three.
+pub static LAYOUTS: [Layout; 4] = [
     Layout {
         stores: [0, 0, 0, 0],
         count: 1,
@@ -44,11 +39,12 @@ static LAYOUTS: [Layout; LAYOUT_COUNT] = [
     },
 ];
 
-static ORDERS: [Order; ORDER_COUNT] = [
-    Order::InOneRun,
-    Order::StartsFirst,
-    Order::FetchesFirst,
-    Order::WithRefusals,
+/// The orders of calls.
+pub static ORDERS: [CallOrder; 4] = [
+    CallOrder::InOneRun,
+    CallOrder::StartsFirst,
+    CallOrder::FetchesFirst,
+    CallOrder::WithRefusals,
 ];
 
 static EDITIONS: [u16; 4] = [1, 1, 1, 1];
@@ -60,7 +56,7 @@ fn worth_of(sheet: &Sheet<Cents>, records: &[Record]) -> Option<u64> {
 }
 
 // A round over this line, in this order of calls. No answer where a call is not answered as it has to be.
-fn try_round<L: Line>(sheet: &Sheet<Cents>, order: Order, line: &mut L) -> Option<Settled> {
+fn try_round<L: Line>(sheet: &Sheet<Cents>, order: CallOrder, line: &mut L) -> Option<Settled> {
     let mut records = [Record::IDLE; 4];
     let mut bits = [0; MOST_ENTRIES];
     let marks = &mut bits[..MOST_ENTRIES.min(sheet.tables().others.len())];
@@ -87,27 +83,24 @@ struct Trial<'a> {
 
 impl Trial<'_> {
     // A round over this line, in this order of calls.
-    fn try_line<L: Line>(&mut self, sheet: &Sheet<Cents>, order: Order, line: &mut L) {
+    fn try_line<L: Line>(&mut self, sheet: &Sheet<Cents>, order: CallOrder, line: &mut L) {
         match try_round(sheet, order, line) {
             Some(settled) => self.counts.add_round(self.expected, &settled),
             None => self.counts.add_refused(),
         }
     }
 
-    // Rounds over both kinds of line, in this order of calls.
-    fn try_order(&mut self, sheet: &Sheet<Cents>, order: Order) {
+    // A round over a line that hands out its notes in this order, in this order of calls.
+    fn try_kind<O: Order>(&mut self, sheet: &Sheet<Cents>, order: CallOrder) {
         let mut slots = [BLANK; MOST_ENTRIES];
-        self.try_line(
-            sheet,
-            order,
-            &mut Queue::new(&mut slots, MOST_ENTRIES as u32),
-        );
-        let mut holes = [BLANK; MOST_ENTRIES];
-        self.try_line(
-            sheet,
-            order,
-            &mut Pigeonholes::new(&mut holes, MOST_ENTRIES as u32),
-        );
+        let mut line: StoreLine<O> = StoreLine::new(&mut slots, MOST_ENTRIES as u32);
+        self.try_line(sheet, order, &mut line);
+    }
+
+    // Rounds over both kinds of line, in this order of calls.
+    fn try_order(&mut self, sheet: &Sheet<Cents>, order: CallOrder) {
+        self.try_kind::<OldestFirst>(sheet, order);
+        self.try_kind::<NewestFirst>(sheet, order);
     }
 
     // The sheet outright, and in rounds in every order of calls.

@@ -105,6 +105,24 @@ fn check_and_settle<L: Line>(
     settle_again(&sheet, board, repeat)
 }
 
+// The same, on a board made of what C lends one by one.
+fn settle_over<L: Line>(
+    tables: Tables<Cents>,
+    records: &mut [Record],
+    marks: &mut [u8],
+    line: &mut L,
+    repeat: u32,
+) -> Outcome
+    ensures { Answers outcome_of (λ x. CheckedSettled (graph tables.entry) repeat (L.Line.waiting line.old) (L.Line.capacity line.old) records.old marks.old x records.new marks.new) result }
+{
+    let mut board = Board {
+        records,
+        marks,
+        line,
+    };
+    Outcome::from(check_and_settle(tables, &mut board, repeat))
+}
+
 // One function for each kind of line, since C has no type parameters.
 
 /// Checks the tables, and then settles rounds of their sheet over one queue, so many one after the other. The queue has
@@ -133,13 +151,8 @@ pub extern "C" fn stages_settle_queue<'a>(
         editions,
         store_count,
     };
-    let line = &mut Queue::new(slots, capacity);
-    let mut board = Board {
-        records,
-        marks,
-        line,
-    };
-    Outcome::from(check_and_settle(tables, &mut board, repeat))
+    let mut queue = Queue::new(slots, capacity);
+    settle_over(tables, records, marks, &mut queue, repeat)
 }
 
 /// Checks the tables, and then settles rounds of their sheet over the same pigeonholes, so many one after the other. The
@@ -168,11 +181,6 @@ pub extern "C" fn stages_settle_pigeonholes<'a>(
         editions,
         store_count,
     };
-    let line = &mut Pigeonholes::new(slots, capacity);
-    let mut board = Board {
-        records,
-        marks,
-        line,
-    };
-    Outcome::from(check_and_settle(tables, &mut board, repeat))
+    let mut holes = Pigeonholes::new(slots, capacity);
+    settle_over(tables, records, marks, &mut holes, repeat)
 }
