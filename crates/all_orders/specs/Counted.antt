@@ -1,4 +1,4 @@
--- What holds of the counts of a round that is not counted as wrong.
+-- What holds of the counts of a round that is not counted as wrong. Assumes nothing.
 use Rattle.std.specs.Prelude.{◌≡◌, ◌+◌, ◌≤◌}
 use Rattle.all_orders.specs.declared.counts.Expected.{Expected}
 use Rattle.all_orders.specs.declared.counts.Settled.{Settled}

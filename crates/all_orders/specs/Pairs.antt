@@ -1,4 +1,4 @@
--- Pairs of four parcels: what they share, and which stands above.
+-- Pairs of four parcels: what they share, and which stands above. Assumes nothing.
 use Rattle.std.specs.Prelude.{ℕ, Bool, cond, ◌||◌, Some, None, Option, ◌==◌, nat_lt}
 use Rattle.all_orders.specs.declared.small.Pair.{Pair}
 

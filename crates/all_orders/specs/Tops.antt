@@ -1,4 +1,4 @@
--- The pair of a list that stands above all others.
+-- The pair of a list that stands above all others. Assumes nothing.
 use Rattle.std.specs.Prelude.{◌≡◌, ℕ, ◌<◌, false, List, length, Some, None, Option, slice_index_or}
 use Rattle.all_orders.specs.declared.small.Pair.{Pair}
 use Rattle.all_orders.specs.Pairs.{standing_above}

@@ -43,7 +43,7 @@ pub fn top_entry<K: Ranking, C: Candidates>(
 {
     let keys = sheet.tables().keys;
     let mut top = None;
-    // a loop, since the closure of a `reduce` would not know that the places it is given stand in the row
+    // a loop: the closures of `filter` with `fold` or `reduce` may be given any place, and then `keys` has no proof
     for p in sheet.row(parcel) {
         if candidates.stands_at(p) && no_lower(keys, p, top) {
             top = Some(p);

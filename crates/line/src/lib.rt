@@ -10,11 +10,9 @@ ghost use Rattle.line.specs.Kinds.{code, Decodes};
 
 use faults::Fault;
 
-// The limits are a line's own, which knows no sheet; they suffice for the largest one.
-
-/// The largest capacity of a line.
+/// The largest capacity of a line. A line knows no sheet; this suffices for the largest one.
 pub const MAX_NOTES: u32 = 16_384;
-/// The highest number of a store.
+/// The highest number of a store, for a line as for a sheet.
 pub const LAST_STORE: u32 = 63;
 
 /// What a note says.

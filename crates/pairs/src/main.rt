@@ -16,13 +16,14 @@ const MOST_PARCELS: usize = 64;
 
 const MOST_ENTRIES: usize = 512;
 
-// The longest result text of so many parcels is far shorter.
+// The longest result text of 64 parcels is far shorter.
 const MOST_RESULT: usize = 1_024;
 
 // Fills the buffer with input, as far as that goes, and answers how many bytes there were.
 fn fill<R: Read>(input: &mut R, buffer: &mut [u8]) -> io::Result<usize> {
     let mut filled = 0;
-    // by hand, since `read_exact` refuses an input shorter than the buffer, and what fills a `Vec` needs a heap
+    // by hand, since `read_exact` refuses an input shorter than the buffer; and by `read_to_end` into a `Vec` the program,
+    // which takes no memory as it runs, could fail for want of it
     while filled < buffer.len() {
         let count = input.read(&mut buffer[filled..])?;
         if count == 0 {

@@ -1,7 +1,7 @@
 //! The protocol of rounds: what its calls do, and the law that holds after every list of them.
 #![tactic(auto)]
 
-/// How a run ended. Its refused case holds the two plain numbers that a user is told, since a run is the last to speak of them.
+/// How a run ended. Its refused case holds the two plain numbers that a user is told.
 #[derive(Clone, Copy, Debug, PartialEq, Eq)]
 pub enum Ending {
     /// No parcel is idle, and no note waits for the sheet's stores.

@@ -24,11 +24,11 @@ pub trait Ranking: Copy {
     fn at_least(self, other: Self) -> bool
         ensures { result ≡ atleast self other };
 
-    /// How many text fields a key has: 1 or 2. A function and no constant, so that a kind made of two others can add theirs.
+    /// How many text fields a key has: 1 or 2. A function, so that a kind made of two others adds theirs.
     fn field_count() -> usize
         ensures { result ≡ fields };
 
-    /// The key with these fields; a key of one field disregards the second. Two numbers, since a slice could have another length.
+    /// The key with these fields; a key of one field disregards the second.
     fn from_fields(first: u32, second: u32) -> Self
         ensures { result ≡ made first second };
 

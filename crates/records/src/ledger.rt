@@ -11,8 +11,8 @@ use crate::record::{Record, State};
 use faults::{Fault, Refusal};
 use sheet::Sheet;
 
-/// A sheet and the records of its parcels, lent for reading. There need not be a record for each parcel: where a step needs
-/// that, it asks it, and what calls it has tried it.
+/// A sheet and the records of its parcels, lent for reading. There need not be a record for each parcel: the public calls try
+/// that, or do without.
 #[derive(Clone, Copy)]
 pub struct Ledger<'a, K> {
     pub sheet: &'a Sheet<'a, K>,

@@ -9,6 +9,7 @@ use std::ops::Range;
 /// what `check` promises of it.
 ///
 /// There is the empty sheet, and there is what `check` makes; no other way leads to one.
+// It has no `Model`: contracts speak of the very slices that it holds, which a view as lists would hide.
 #[derive(Drop)]
 pub struct Sheet<'a, K> {
     pub(crate) tables: Tables<'a, K>,

@@ -11,15 +11,17 @@ ghost use Rattle.sheet_text.specs.Checking.{Checking};
 ghost use Rattle.sheet_text.specs.Pairing.{Enough, Settled, Pairing, SettlesAndPrints};
 ghost use Rattle.sheet_text.specs.Lent.{lent_memory, SameMemory};
 
+// what the macros name
+pub use lines::BLANK;
+pub use ranking::Cents;
+pub use reading::TablesMut;
+pub use records::Record;
+
 use chains::Slot;
 use faults::{Fault, Refusal};
 use line::MAX_NOTES;
-pub use lines::BLANK;
 use lines::Queue;
-pub use ranking::Cents;
-pub use reading::TablesMut;
 use reading::{Sizes, read};
-pub use records::Record;
 use records::{Ledger, Totals};
 use results::result_text;
 use round::Board;
@@ -146,6 +148,7 @@ pub fn pair_text(text: &[u8], memory: &mut MemoryMut<'_>, out: &mut [u8]) -> Res
     ensures slices { SameMemory memory.old memory.new }
 {
     let sizes = read(text, &mut memory.tables)?;
+    // before the sheet, which borrows a part of the memory
     let enough = memory.is_enough(sizes);
     let mut sheet = Sheet::empty();
     let Some(first) = memory.tables.cut(sizes) else {
