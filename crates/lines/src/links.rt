@@ -1,5 +1,6 @@
-//! The steps on the chains of a pool: a place leaves a chain at its front, or joins one at either end. Each says of the
-//! counts that it leaves them alone, which no fact about one pool can say.
+//! The steps on the chains of a pool: a place leaves a chain at its front, or joins one at either end. They are functions and
+//! no methods, since `Pool` stands in `chains`, beside its theory. Each says of the counts that it leaves them alone, which no
+//! fact about one pool can say.
 ghost use Rattle.std.specs.Prelude.{◌≡◌, ◌<◌, if◌then◌else◌, nat_lt, slice_index, slice_set};
 ghost use Rattle.chains.specs.Tables.{Moved};
 ghost use Rattle.chains.specs.Stores.{KeptIn, MovableIn, SameSizes, capacity_of, held_in};
