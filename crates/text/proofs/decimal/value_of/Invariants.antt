@@ -1,6 +1,7 @@
 use Rattle.std.proofs.Common.{◌≡◌, take}
-use Rattle.text.specs.Numbers.{value}
+use Rattle.std.specs.List.{AllByRecursion}
+use Rattle.text.specs.Numbers.{Digit, value}
 use Rattle.text.proofs.decimal.value_of.Given as goal
 
 abbrev pub invariant-loop-b : goal.invariant-loop-b
-invariant-loop-b l = l.value ≡ value (take l.b-index l.digits)
+invariant-loop-b l = AllByRecursion Digit (take l.b-index l.bytes) × (l.value ≡ value (take l.b-index l.bytes))

@@ -1,7 +1,0 @@
-use Rattle.std.proofs.Common.{take}
-use Rattle.std.specs.List.{AllByRecursion}
-use Rattle.text.specs.Numbers.{Digit}
-use Rattle.text.proofs.decimal.all_digits.Given as goal
-
-abbrev pub invariant-loop-b : goal.invariant-loop-b
-invariant-loop-b l = AllByRecursion Digit (take l.b-index l.bytes)
