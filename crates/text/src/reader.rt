@@ -9,13 +9,7 @@ use super::{Fields, Lines, Part, number};
 fn find(bytes: &[u8], byte: u8) -> Option<usize>
     ensures { elim result [ Some i ↦ (i < length bytes.now) × (slice_index bytes.now i ≡ byte) × Free byte (take i bytes.now) | None ↦ Free byte bytes.now ] }
 {
-    // a loop: by `position` here and `all` in `all_digits` reading took 1.22 times as long as plain Rust, and 1.2 is the bar
-    for (i, b) in bytes.iter().enumerate() {
-        if *b == byte {
-            return Some(i);
-        }
-    }
-    None
+    bytes.iter().position(|b| *b == byte)
 }
 
 impl<'a> Lines<'a> {
