@@ -25,7 +25,10 @@ fn facts(counts: &Counts) -> [(&'static str, u64); 16] {
         ("pairs", u64::from(counts.pairs.0)),
         ("lone parcels", u64::from(counts.lone.0)),
         ("cents", counts.cents.0),
-        ("fewest notes of a round", u64::from(counts.fewest.unwrap_or(0))),
+        (
+            "fewest notes of a round",
+            u64::from(counts.fewest.unwrap_or(0)),
+        ),
         ("most notes of a round", u64::from(counts.most)),
         ("closes refused before the end", u64::from(counts.closes.0)),
         (

@@ -33,7 +33,7 @@ impl<K: Ranking> TablesMut<'_, K> {
         // `i` is the number that a parcel's line names, and its place in two tables
         for i in 0..body.sizes.parcels {
             let Some(parcel) = parcel_line(&mut body.lines, i) else {
-                unreachable();
+                unreachable!();
             };
             self.stores[i as usize] = parcel.store;
             self.editions[i as usize] = parcel.edition;
@@ -54,7 +54,7 @@ impl<K: Ranking> TablesMut<'_, K> {
         // `j` is where a row may start, and an entry's place in two tables
         for j in 0..sizes.entries {
             let Some(entry) = entry_line::<K>(&mut body.lines, sizes.parcels, low) else {
-                unreachable();
+                unreachable!();
             };
             low = entry.row;
             fill_starts(self.starts, started, low + 1, j);

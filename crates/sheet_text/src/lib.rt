@@ -12,16 +12,15 @@ ghost use Rattle.sheet_text.specs.Pairing.{Enough, Settled, Pairing, SettlesAndP
 ghost use Rattle.sheet_text.specs.Lent.{lent_memory, SameMemory};
 
 // what the macros name
-pub use lines::BLANK;
-pub use ranking::Cents;
-pub use reading::TablesMut;
-pub use records::Record;
-
 use chains::Slot;
 use faults::{Fault, Refusal};
 use line::MAX_NOTES;
+pub use lines::BLANK;
 use lines::Queue;
+pub use ranking::Cents;
+pub use reading::TablesMut;
 use reading::{Sizes, read};
+pub use records::Record;
 use records::{Ledger, Totals};
 use results::result_text;
 use round::Board;
@@ -89,7 +88,7 @@ pub fn check_text(text: &[u8], tables: &mut TablesMut<'_, Cents>) -> Result<Size
     let sizes = read(text, tables)?;
     let mut sheet = Sheet::empty();
     let Some(first) = tables.cut(sizes) else {
-        unreachable();
+        unreachable!();
     };
     check(&mut sheet, first)?;
     Ok(sizes)
@@ -152,7 +151,7 @@ pub fn pair_text(text: &[u8], memory: &mut MemoryMut<'_>, out: &mut [u8]) -> Res
     let enough = memory.is_enough(sizes);
     let mut sheet = Sheet::empty();
     let Some(first) = memory.tables.cut(sizes) else {
-        unreachable();
+        unreachable!();
     };
     check(&mut sheet, first)?;
     if !enough {
