@@ -30,8 +30,8 @@ impl Round {
     }
 }
 
-// Round, sheet and board are passed side by side: a struct that holds both a sheet and slices to be written gets no proof where
-// it is made of a function's parameters, and a round is its caller's until closing takes it.
+// Round, sheet and board are passed side by side: a board that held the sheet would make each call promise that the sheet stays,
+// and a round is its caller's until closing takes it.
 
 /// What the turns of a round write to: the records of the sheet's parcels, the marks of its entries, and the line.
 #[derive(Drop)]
