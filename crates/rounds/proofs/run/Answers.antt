@@ -2,11 +2,10 @@ use Rattle.std.proofs.Common.{◌≡◌, sym, ap, ◌∙◌, subst, arith}
 use Rattle.sheet.specs.Graph.{parcels}
 use Rattle.sheet.specs.View.{graph}
 use Rattle.sheet.specs.Held.{held}
-use Rattle.protocol.specs.Runs.{other_sizes}
+use Rattle.protocol.specs.Runs.{NoIdleBelow, other_sizes}
 use Rattle.protocol.proofs.Holds.{fits_facts}
 use Rattle.round.specs.Seen.{seen}
 use Rattle.round.proofs.Boards.{same_board, same_boards}
-use Rattle.protocol.specs.Runs.{NoIdleBelow}
 use Rattle.rounds.proofs.Going.{here, busy_below, turned_ok, ends_still, ends_refused, ends_spent, ends_quiet}
 use Rattle.rounds.proofs.run.Goals.{in-StartOf, in-FetchFor}
 use Rattle.rounds.proofs.run.Goals as goal
