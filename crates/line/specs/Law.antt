@@ -8,7 +8,7 @@ abbrev pub Choice : List Note → ℕ → Option Note → Type 0
 Choice notes s None = AllByRecursion (λ n. n.store ≢ s) notes
 Choice notes s (Some n) = ContainsAt notes n × (n.store ≡ s)
 
--- a line never holds more notes than its capacity, nor a note for a store above 63
+-- a line holds no more notes than its capacity, which is at most 16,384, and none for a store above 63; what it would hand a store is a choice
 pub record Lawful (waiting : List Note) (capacity : ℕ) (chosen : ℕ → Option Note) : Type 0 where
   pub within : length waiting ≤ capacity
   pub limit : capacity ≤ 16384

@@ -26,17 +26,17 @@ pub record Best {K : Type 0} (atleast : K → K → Bool) (t : Graph K) (rs : Li
   pub within : InRow t u p
   pub over : (q : ℕ) → InRow t u q → (state rs (other t q) ≢ 2) → (q ≢ p) → entry_above atleast t p q ≡ true
 
--- u is lone: no entry of its row is free
+-- what is kept of a lone u: choice 0, and every parcel that its row names is paired
 pub record Bare {K : Type 0} (t : Graph K) (rs : List Record) (u : ℕ) : Type 0 where
   pub none : choice rs u ≡ 0
   pub taken : (q : ℕ) → InRow t u q → state rs (other t q) ≡ 2
 
--- who stands above u's choice, at place q of its row, is paired with one that stands above u in its own row
+-- the parcel that entry q of row u names is paired, at an entry above its entry for u
 pub record Answered {K : Type 0} (atleast : K → K → Bool) (t : Graph K) (rs : List Record) (u q : ℕ) : Type 0 where
   pub paired : state rs (other t q) ≡ 2
   pub higher : entry_above atleast t (chosen_place t rs (other t q)) (mirror t u q) ≡ true
 
--- every parcel that points does so at its best, no two that wait point at each other, and each pair is recorded at both parcels
+-- one record for each parcel; who points does so at its best; a lone parcel is bare; a pair is recorded at both parcels; each entry above a paired parcel's choice is answered; and no two that wait point at each other
 pub record Kept {K : Type 0} (atleast : K → K → Bool) (t : Graph K) (rs : List Record) : Type 0 where
   pub long : length rs ≡ parcels t
   pub best : (u : ℕ) → u < parcels t → Points rs u → Best atleast t rs u (chosen_place t rs u)

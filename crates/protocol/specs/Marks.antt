@@ -11,11 +11,12 @@ open' m p = bit_and (slice_index m p) 1 == 0
 abbrev pub bidden : List ℕ → ℕ → Bool
 bidden m p = not (bit_and (slice_index m p) 2 == 0)
 
--- the places of row u, in order
+-- k places, from p on
 abbrev pub places_from : ℕ → ℕ → List ℕ
 places_from zero p = []
 places_from (suc k) p = p ∷ places_from k (suc p)
 
+-- the places of row u, in order
 abbrev pub places : {K : Type 0} → Graph K → ℕ → List ℕ
 places t u = places_from (row_end t u - row_start t u) (row_start t u)
 

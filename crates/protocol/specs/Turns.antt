@@ -56,7 +56,7 @@ module _ {K : Type 0} (atleast : K → K → Bool) (t : Graph K) where
   Start u (Ok _) w w' = Started u w w'
   Start u (Err f) w w' = StartRefused w u (number f.0) f.1 × (StartAccepted w u → ⊥) × (w' ≡ w)
 
-  -- a note for store s goes astray: its addressee is not a parcel of that store, its sender not in the addressee's row, or its kind neither bid nor drop
+  -- a note for store s is stray: its addressee is not a parcel of that store, its sender not in the addressee's row, or its kind neither bid nor drop
   abbrev pub stray : ℕ → Note → Bool
   stray s n =
       not (nat_lt n.addressee (parcels t))

@@ -37,7 +37,7 @@ pub record RecordsPair {K : Type 0} (t : Graph K) (rs : List Record) (u v : ℕ)
   pub within : chosen_place t rs u < row_end t u
   pub with' : chosen t rs u ≡ v
 
--- u is recorded lone
+-- u is recorded lone, with choice 0
 pub record RecordsLone (rs : List Record) (u : ℕ) : Type 0 where
   pub lone : state rs u ≡ 3
   pub none : choice rs u ≡ 0

@@ -47,12 +47,12 @@ abbrev pub Settling : {K : Type 0} → (K → K → Bool) → Graph K → (Round
 Settling atleast t see unopened (Ok x) = (e : Ended atleast t see) × Closed t (see e.round) x
 Settling atleast t see unopened (Err f) = unopened (number f.0) f.1 ⊎ ((e : Ended atleast t see) × CloseRefused t (see e.round) (number f.0) f.1)
 
--- and on a sheet whose two sides rank alike: only open refuses, and the round ends settled
+-- only open refuses; else the round ends settled
 abbrev pub SettlesOrUnopened : {K : Type 0} → (K → K → Bool) → Graph K → (Round → World) → (ℕ → ℕ → Type 0) → Result Totals (Refusal × ℕ) → Type 0
 SettlesOrUnopened atleast t see unopened (Ok x) = (r : Round) × Settles atleast t (see r) x
 SettlesOrUnopened atleast t see unopened (Err f) = unopened (number f.0) f.1
 
--- with tables of the right lengths and an empty line with room for the entries, it does not refuse
+-- the answer is no refusal
 abbrev pub DoesNotRefuse : Result Totals (Refusal × ℕ) → Type 0
 DoesNotRefuse (Ok _) = Unit {0}
 DoesNotRefuse (Err _) = ⊥
