@@ -5,6 +5,7 @@ use Rattle.chains.specs.declared.Slot.{Slot}
 use Rattle.chains.specs.Stores.{notes_in}
 use Rattle.chains.specs.Walk.{chain, no_note, slot}
 
+-- a bid from this sender, for store 5
 abbrev bid_from : ℕ → Note
 bid_from sender = record { sender = sender; addressee = 9; store = 5; kind = 1 }
 
@@ -12,6 +13,7 @@ bid_from sender = record { sender = sender; addressee = 9; store = 5; kind = 1 }
 abbrev slots : List Slot
 slots = slot (bid_from 11) 9 ∷ slot no_note 9 ∷ slot (bid_from 12) 0 ∷ []
 
+-- chain 5 begins at 2, the free chain at 1, and every other chain is empty
 abbrev heads : List ℕ
 heads = slice_set (slice_set (replicate 65 9) 5 2) 64 1
 

@@ -67,6 +67,7 @@ pub record SixNotes : Type 0 where
   pub refused : (rs : List Record) (m : List ℕ) → OpenRefused path rs m [] 5 11 0
   pub only : (rs : List Record) (m : List ℕ) (k p : ℕ) → OpenRefused path rs m [] 5 k p → (k ≡ 11) × (p ≡ 0)
 
+-- the totals 0, 0, 0, 0
 abbrev pub nothing : Totals
 nothing = record { tally = record { pairs = 0; lone = 0 }; sent = 0; turns = 0 }
 
@@ -74,6 +75,7 @@ nothing = record { tally = record { pairs = 0; lone = 0 }; sent = 0; turns = 0 }
 abbrev pub OnePast : Graph Cents → Type 0
 OnePast t = (parcels t ≡ 1025) ⊎ ((entries t ≡ 16385) ⊎ ((t.limit ≡ 0) ⊎ (t.limit ≡ 65)))
 
+-- all that is known of the small sheets
 pub record KnownSheets : Type 0 where
   -- the empty sheet is settled at open, and close answers 0, 0, 0, 0
   pub empty : PairsAs cents_atleast no_parcels []

@@ -6,6 +6,7 @@ use Rattle.ranking.specs.declared.Staged.{Staged}
 use Rattle.sheet.specs.Graph.{Graph}
 use Rattle.records.specs.Example.{row_of_four}
 
+-- the key of so many cents
 abbrev cents : ℕ → Cents
 cents n = cents_key n 0
 

@@ -7,9 +7,11 @@ use Rattle.matching.specs.Pairs.{Pair}
 use Rattle.sheet.specs.Graph.{Graph, no_parcels}
 use Rattle.pairing.specs.Above.{greedy_pairing}
 
+-- the key of so many cents
 abbrev cents : ℕ → Cents
 cents n = cents_key n 0
 
+-- the pair with a as its lower parcel and b as its higher
 abbrev pair : ℕ → ℕ → Pair
 pair a b = record { lo = a; hi = b }
 

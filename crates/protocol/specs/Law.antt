@@ -43,6 +43,7 @@ module _ {K : Type 0} (atleast : K → K → Bool) (t : Graph K) (w : World) whe
     pub each : AllZip Covers O names
     pub twice : (q : Pair) → count_by (same q) names ≤ 2
 
+  -- the law of rounds says all this of the world w
   pub record Law : Type 0 where
     -- a pair recorded at either parcel belongs to the greedy pairing
     pub pair : (u v : ℕ) → RecordsPair t w.records u v → joint u v ∈ greedy_pairing atleast t

@@ -10,6 +10,7 @@ use Rattle.protocol.specs.Marks.{open', bidden, open_others, bid, drop, strike, 
 abbrev pub with_choice : {K : Type 0} → Graph K → ℕ → ℕ → ℕ → Record
 with_choice t state u p = record { state = state; choice = p - row_start t u }
 
+-- the record of a lone parcel
 abbrev pub lone_record : Record
 lone_record = record { state = 3; choice = 0 }
 

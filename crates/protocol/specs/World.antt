@@ -4,6 +4,7 @@ use Rattle.line.specs.declared.Note.{Note}
 use Rattle.records.specs.declared.record.Record.{Record}
 use Rattle.sheet.specs.Graph.{Graph, parcels, entries}
 
+-- the open round, the lent tables and the line, as they stand at one time
 pub record World : Type 0 where
   -- the open round: the sizes of the sheet that it was opened on, and its two counts
   pub parcel_count : ℕ

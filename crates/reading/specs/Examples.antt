@@ -3,6 +3,7 @@ use Rattle.std.specs.Prelude.{◌≡◌, ℕ, [], ◌∷◌}
 use Rattle.reading.specs.Listing.{Entry, Listing, rows}
 use Rattle.reading.specs.Outcome.{laid, starts_of}
 
+-- the entry of row u for v, at so many cents
 abbrev entry : ℕ → ℕ → ℕ → Entry
 entry u v cents = record { row = u; other = v; fields = cents ∷ [] }
 

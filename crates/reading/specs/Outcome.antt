@@ -17,6 +17,7 @@ pub record Tables (K : Type 0) : Type 0 where
   pub stores : List ℕ
   pub editions : List ℕ
 
+-- the tables made of these five
 abbrev pub tables : {K : Type 0} → List ℕ → List ℕ → List K → List ℕ → List ℕ → Tables K
 tables starts others keys stores editions = record { starts = starts; others = others; keys = keys; stores = stores; editions = editions }
 

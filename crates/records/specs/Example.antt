@@ -17,18 +17,23 @@ row_of_four a b c = record {
   limit = 2;
 }
 
+-- the sheet with the keys 5, 9 and 7
 abbrev sheet : Graph ℕ
 sheet = row_of_four 5 9 7
 
+-- the record of a lone parcel
 abbrev lone : Record
 lone = record { state = 3; choice = 0 }
 
+-- the record of a paired parcel with this choice
 abbrev paired : ℕ → Record
 paired place = record { state = 2; choice = place }
 
+-- the records: the middle two paired, the others lone
 abbrev pub middle_paired : List Record
 middle_paired = lone ∷ paired 1 ∷ paired 0 ∷ lone ∷ []
 
+-- the pair of the middle two
 abbrev pub middle : Pair
 middle = record { lo = 1; hi = 2 }
 

@@ -8,9 +8,11 @@ use Rattle.records.specs.declared.record.Record.{Record}
 abbrev pub record_of : List Record → ℕ → Record
 record_of rs u = slice_index_or rs u (record { state = 0; choice = 0 })
 
+-- the state of parcel u
 abbrev pub state : List Record → ℕ → ℕ
 state rs u = (record_of rs u).state
 
+-- the choice of parcel u
 abbrev pub choice : List Record → ℕ → ℕ
 choice rs u = (record_of rs u).choice
 

@@ -8,6 +8,7 @@ use Rattle.records.specs.Listed.{lower_pairs}
 use Rattle.results.specs.Worth.{chosen_cents, pair_cents}
 use Rattle.results.specs.Text.{result_text}
 
+-- the sheet with the keys 5, 9 and 7
 abbrev sheet : Graph Cents
 sheet = row_of_four (cents_key 5 0) (cents_key 9 0) (cents_key 7 0)
 

@@ -25,6 +25,7 @@ pub record Memory : Type 0 where
   pub slots : List Slot
   pub out : List ℕ
 
+-- the memory made of these five
 abbrev pub memory : Tables Cents → List Record → List ℕ → List Slot → List ℕ → Memory
 memory tables records marks slots out = record { tables = tables; records = records; marks = marks; slots = slots; out = out }
 

@@ -45,12 +45,14 @@ listed starts others keys stores editions limit = record { starts = starts; othe
 abbrev pub Unchecked : Graph Cents → Refusal × ℕ → Type 0
 Unchecked t f = Refused cents_atleast t (number f.0) f.1 × (Passed cents_atleast t → ⊥)
 
+-- what the check answers: the sheet passes, or is refused
 abbrev pub Checked : Graph Cents → Result (Unit {0}) (Refusal × ℕ) → Type 0
 Checked t (Ok _) = Passed cents_atleast t
 Checked t (Err f) = Unchecked t f
 
--- outright pairing, so many times one after the other: after one or more the records hold the greedy pairing, and a refusal alters nothing
+-- outright pairing, so many times one after the other
 module _ (t : Graph Cents) (repeat : ℕ) (rs : List Record) (work : List ℕ) where
+  -- 0 times alter nothing; else it is done, or refused with nothing altered
   abbrev pub Paired : Result (Unit {0}) (Refusal × ℕ) → List Record → List ℕ → Type 0
   Paired (Ok _) rs' work' = ((repeat ≡ 0) × (rs' ≡ rs) × (work' ≡ work)) ⊎ ((0 < repeat) × outright.Done cents_atleast t rs work rs')
   Paired (Err f) rs' work' = (0 < repeat) × outright.Refused t rs work (number f.0) f.1 × (rs' ≡ rs) × (work' ≡ work)
@@ -69,11 +71,13 @@ pub record RoundOf (t : Graph Cents) (x : Totals) (rs : List Record) (m : List �
   pub closed : Closed t world x
   pub entire : Entire t rs (greedy_pairing cents_atleast t)
 
+-- the totals of no round: all 0
 abbrev pub no_totals : Totals
 no_totals = record { tally = record { pairs = 0; lone = 0 }; sent = 0; turns = 0 }
 
--- rounds over a line, so many one after the other: the totals are those of the last, only the opening of the first can refuse, and that alters nothing
+-- rounds over a line, so many one after the other
 module _ (t : Graph Cents) (repeat : ℕ) (waiting : List Note) (capacity : ℕ) (rs : List Record) (m : List ℕ) where
+  -- 0 rounds alter nothing, and their totals are 0; else the totals, records and marks are those of a round, or the opening is refused with nothing altered
   abbrev pub Settled : Result Totals (Refusal × ℕ) → List Record → List ℕ → Type 0
   Settled (Ok x) rs' m' = ((repeat ≡ 0) × (x ≡ no_totals) × (rs' ≡ rs) × (m' ≡ m)) ⊎ ((0 < repeat) × RoundOf t x rs' m')
   Settled (Err f) rs' m' = (0 < repeat) × OpenRefused t rs m waiting capacity (number f.0) f.1 × (rs' ≡ rs) × (m' ≡ m)
