@@ -1,4 +1,4 @@
-//! Small sheets of which everything is known: what the definitions of this repository say of them is what the trade says.
+//! Small sheets of which everything is known: what the definitions of this repository say of them, as one proof.
 #![tactic(auto)]
 
 ghost use Rattle.known.specs.Known.{KnownSheets};

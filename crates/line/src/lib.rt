@@ -86,7 +86,7 @@ pub trait Line {
     fn size(&self) -> u32
         ensures { result ≡ capacity self.now };
 
-    /// Adds the note once. Fails with `NoStore` at the note's store if that is above 63, and else with `NoRoom` at
+    /// Adds the note once. Refuses with `NoStore` at the note's store if that is above 63, and else with `NoRoom` at
     /// its sender if no place is free; the line then stays as it was.
     fn put(&mut self, note: Note) -> Result<(), Fault>
         ensures answer { result ≡ put_answer note (waiting self.old) (capacity self.old) }

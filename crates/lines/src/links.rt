@@ -1,4 +1,4 @@
-//! The steps on the chains of a pool: a place leaves a chain at its front, or joins one at either end. They are functions and
+//! The steps on the chains of a pool: a slot leaves a chain at its front, or joins one at either end. They are functions and
 //! no methods, since `Pool` stands in `chains`, beside its theory. Each says of the counts that it leaves them alone, which no
 //! fact about one pool can say.
 ghost use Rattle.std.specs.Prelude.{◌≡◌, ◌<◌, if◌then◌else◌, nat_lt, slice_index, slice_set};
@@ -10,7 +10,7 @@ use crate::END;
 use chains::{End, Pool, Slot};
 use line::Note;
 
-// Takes the first place off a chain that has one.
+// Takes the first slot off a chain that has one.
 fn pop(pool: &mut Pool, from: u32) -> u32
     requires { (from < 65) × (slice_index pool.old.heads from < capacity_of pool.old) }
     ensures place { result ≡ slice_index pool.old.heads from }
@@ -24,7 +24,7 @@ fn pop(pool: &mut Pool, from: u32) -> u32
     place
 }
 
-// Puts a place with the note in front of the chain of the note's store.
+// Puts a slot with the note in front of the chain of the note's store.
 pub(crate) fn push_front(pool: &mut Pool, place: u32, note: Note)
     requires { (note.store < 65) × (place < capacity_of pool.old) }
     ensures slots { pool.new.slots.now ≡ slice_set pool.old.slots.now place (slot note (slice_index pool.old.heads note.store)) }
@@ -41,7 +41,7 @@ pub(crate) fn push_front(pool: &mut Pool, place: u32, note: Note)
     }
 }
 
-// Puts a place with the note behind the chain of the note's store.
+// Puts a slot with the note behind the chain of the note's store.
 fn push_back(pool: &mut Pool, place: u32, note: Note)
     requires within { (note.store < 65) × (place < capacity_of pool.old) }
     requires last_within { slice_index pool.old.heads note.store < capacity_of pool.old → slice_index pool.old.tails note.store < capacity_of pool.old }
@@ -61,7 +61,7 @@ fn push_back(pool: &mut Pool, place: u32, note: Note)
     pool.tails[to] = place;
 }
 
-// Moves the first place of one chain to an end of the note's chain, with the note.
+// Moves the first slot of one chain to an end of the note's chain, with the note.
 pub(crate) fn carry(pool: &mut Pool, from: u32, note: Note, end: End)
     requires { MovableIn pool.old from note }
     ensures kept { KeptIn pool.new }

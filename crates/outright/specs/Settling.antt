@@ -1,4 +1,4 @@
--- One parcel settles: it looks through its row and points at the best free entry. Assumes nothing.
+-- One parcel settles: it looks through its row and points at the top free entry. Assumes nothing.
 use Rattle.std.specs.Prelude.{◌≡◌, ℕ, ◌+◌, ◌-◌, ◌<◌, ◌≤◌, Bool, false, List, length, count_by, ◌≢◌, nat_eq, slice_index, slice_set}
 use Rattle.sheet.specs.Graph.{Graph, parcels, row_start, other, InRow}
 use Rattle.choosing.specs.Top.{Top}
@@ -23,7 +23,7 @@ pub record Ready {K : Type 0} (atleast : K → K → Bool) (t : Graph K) (rs : L
   pub room : parcels t ≤ length work
 
 module _ {K : Type 0} (atleast : K → K → Bool) (t : Graph K) (v : ℕ) where
-  -- v has settled: lone, waiting at the best free entry, or paired there with a parcel that waited for v; the two are then put on the worklist
+  -- v has settled: lone, waiting at the top free entry, or paired there with a parcel that waited for v; the two are then put on the worklist
   pub data Settles (rs : List Record) (work : List ℕ) (k : ℕ) (rs' : List Record) (work' : List ℕ) (k' : ℕ) : Type 0 where
     stays_lone : ((q : ℕ) → InRow t v q → free t rs q ≡ false) → rs' ≡ slice_set rs v (record { state = 3; choice = 0 }) → work' ≡ work → k' ≡ k → Settles rs work k rs' work' k'
     waits : (p : ℕ) → Top atleast t (free t rs) v p → (state rs (other t p) ≡ 1 → chosen t rs (other t p) ≢ v)

@@ -1,4 +1,4 @@
-//! Outright pairing: the greedy pairing of a sheet, found without sorting. Each parcel points at its best free entry;
+//! Outright pairing: the greedy pairing of a sheet, found without sorting. Each parcel points at its top free entry;
 //! two parcels that point at each other are paired, and only those that pointed at one of them look again.
 #![tactic(auto)]
 

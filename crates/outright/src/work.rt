@@ -61,8 +61,8 @@ impl Work<'_> {
         self.listed += 1;
     }
 
-    // The best free entry of parcel `v`, if its row has a free one.
-    fn best_free<K: Ranking>(&self, sheet: &Sheet<K>, v: usize) -> Option<usize>
+    // The top free entry of parcel `v`, if its row has a free one.
+    fn top_free<K: Ranking>(&self, sheet: &Sheet<K>, v: usize) -> Option<usize>
         ensures { Choice K.Ranking.atleast (held sheet.now) (free (held sheet.now) self.now.records.now) v result }
     {
         let free = Free {
@@ -105,7 +105,7 @@ impl Work<'_> {
         self.list(w);
     }
 
-    // Parcel `v` looks through its row: it points at its best free entry, and is paired there if that parcel waits at
+    // Parcel `v` looks through its row: it points at its top free entry, and is paired there if that parcel waits at
     // `v`; with no free entry it is lone.
     fn settle<K: Ranking>(&mut self, sheet: &Sheet<K>, v: u32)
         requires ready { WorkReady K.Ranking.atleast (held sheet.now) self.old }
@@ -115,7 +115,7 @@ impl Work<'_> {
         ensures settles { WorkSettles K.Ranking.atleast (held sheet.now) v self.old self.new }
     {
         let tables = sheet.tables();
-        let Some(p) = self.best_free(sheet, v as usize) else {
+        let Some(p) = self.top_free(sheet, v as usize) else {
             self.records[v as usize] = Record::LONE;
             return;
         };

@@ -1,4 +1,5 @@
-//! The protocol of rounds: what its calls do, and the law that holds after every list of them.
+//! The protocol of rounds. What its calls mean, and the law that holds after every list of them, are in specs/; the code has
+//! how a run ends.
 #![tactic(auto)]
 
 /// How a run ended. Its refused case holds the two plain numbers that a user is told.

@@ -4,7 +4,7 @@ use Rattle.std.specs.List.{flat_map}
 use Rattle.std.proofs.lemmas.List.{length-append, length_push, append-nil, take_more, flat_map_more}
 use Rattle.std.proofs.lemmas.List.Sums.{sum_by-cons}
 use Rattle.std.proofs.lemmas.List.Folds.{length-flat_map-take}
-use Rattle.results.specs.Text.{field, mark, line}
+use Rattle.results.specs.Text.{field, ending, line}
 
 pub length_field : (n after : ℕ) → length (field n after) ≡ length (decimal n) + 1
 length_field n after = length_push (decimal n) after
@@ -15,22 +15,22 @@ line_length (n ∷ ns) = omega (
   arith,
   sum_by-cons (λ m. length (decimal m) + 1) n ns,
   line_length ns,
-  length-append (field n (mark ns)) (line ns),
-  length_field n (mark ns),
+  length-append (field n (ending ns)) (line ns),
+  length_field n (ending ns),
 )
 
 -- the fields of these numbers, each ended by a comma
 abbrev pub fields : List ℕ → List ℕ
 fields = flat_map (λ n. field n 44)
 
-mark_push : (ns : List ℕ) (last : ℕ) → mark (ns ++ last ∷ []) ≡ 44
-mark_push [] last = refl
-mark_push (n ∷ ns) last = refl
+ending_push : (ns : List ℕ) (last : ℕ) → ending (ns ++ last ∷ []) ≡ 44
+ending_push [] last = refl
+ending_push (n ∷ ns) last = refl
 
 pub line_push : (ns : List ℕ) (last : ℕ) → line (ns ++ last ∷ []) ≡ fields ns ++ field last 10
 line_push [] last = append-nil (field last 10)
 line_push (n ∷ ns) last =
-    ap (λ after. field n after ++ line (ns ++ last ∷ [])) (mark_push ns last)
+    ap (λ after. field n after ++ line (ns ++ last ∷ [])) (ending_push ns last)
     ∙ ap (λ rest. field n 44 ++ rest) (line_push ns last)
     ∙ sym (append_assoc (field n 44) (fields ns) (field last 10))
 

@@ -13,14 +13,14 @@ abbrev pub field : ℕ → ℕ → List ℕ
 field n after = decimal n ++ after ∷ []
 
 -- the byte after a number: byte 10 if none follows in its line, else a comma (byte 44)
-abbrev pub mark : List ℕ → ℕ
-mark [] = 10
-mark (n ∷ ns) = 44
+abbrev pub ending : List ℕ → ℕ
+ending [] = 10
+ending (n ∷ ns) = 44
 
 -- a line: its numbers, each with the byte after it
 abbrev pub line : List ℕ → List ℕ
 line [] = []
-line (n ∷ ns) = field n (mark ns) ++ line ns
+line (n ∷ ns) = field n (ending ns) ++ line ns
 
 -- the line of a pair: the lower parcel, then the higher one
 abbrev pub pair_line : Pair → List ℕ

@@ -28,12 +28,12 @@ impl Writer<'_> {
     }
 
     // Writes a number and the byte that ends its field.
-    fn field(&mut self, n: u32, mark: u8)
-        requires { RoomFor self.old (field n mark) }
-        ensures { Wrote self.old self.new (field n mark) }
+    fn field(&mut self, n: u32, ending: u8)
+        requires { RoomFor self.old (field n ending) }
+        ensures { Wrote self.old self.new (field n ending) }
     {
         self.push(Buffer::new().format(n).as_bytes());
-        self.push(&[mark]);
+        self.push(&[ending]);
     }
 
     // Writes the line of these numbers.

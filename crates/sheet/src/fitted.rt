@@ -134,7 +134,7 @@ impl<'a, K: Ranking> Rows<'a, K> {
     {
         let t = self.fitted.tables;
         let mut found = None;
-        // by the project's rule two loops over rows and entries, which are left by their label with the place in hand
+        // two loops over rows and entries, left by their label with the place in hand (docs/DECISIONS.md says why)
         'rows: for u in 0..t.stores.len() {
             for p in t.row(u) {
                 if let Some(refusal) = self.entry_fault(u, p) {

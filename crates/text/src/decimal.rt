@@ -8,7 +8,7 @@ fn value_of(bytes: &[u8]) -> Option<u32>
     ensures { elim result [ Some v ↦ AllByRecursion Digit bytes.now × (v ≡ value bytes.now) | None ↦ AllByRecursion Digit bytes.now → 4294967295 < value bytes.now ] }
 {
     let mut value: u32 = 0;
-    // a loop: by `parse` reading took 1.35 times as long as plain Rust, and 1.2 is the bar
+    // a loop: by `parse` reading took 1.35 times as long as plain Rust (docs/DESIGN-PASS.md)
     for b in bytes {
         if !b.is_ascii_digit() {
             return None;
