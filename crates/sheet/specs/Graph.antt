@@ -70,7 +70,7 @@ place_at t u k = cond (nat_lt u (parcels t) && nat_lt (row_start t u + k) (row_e
 
 -- the first place of row u that names v, if u is a parcel and its row names v
 abbrev pub entry_between : {K : Type 0} → Graph K → ℕ → ℕ → Option ℕ
-entry_between t u v = cond (nat_lt u (parcels t) && nat_lt (place_of t u v) (row_end t u)) (Some (place_of t u v)) None
+entry_between t u v = cond (nat_lt u (parcels t)) (place_between t.others (row_start t u) (row_end t u) v) None
 
 -- the mirror of the entry at place p of row u: the first entry for u in the row of the parcel that it names
 abbrev pub mirror : {K : Type 0} → Graph K → ℕ → ℕ → ℕ
