@@ -1,7 +1,7 @@
 /*
  * Pairing small wool parcels, from C.
  *
- * A sheet's text says which parcels may be joined and how many cents each such
+ * A sheet's text says which parcels may be paired and how many cents each such
  * pair ranks by; a result text says which are. docs/TEXT.md and docs/RESULTS.md
  * have the two forms, docs/FAULTS.md the numbers of the refusals.
  *
