@@ -27,20 +27,17 @@ module _ {A : Type 0} where
   in_has (y ∷ xs) x (inl e) = (0, omega arith, λ d. sym e)
   in_has (y ∷ xs) x (inr m) = let h = in_has xs x m in (suc h.0, omega (arith, h.1), h.2)
 
-  has_in : (xs : List A) (x : A) → ContainsAt xs x → x ∈ xs
-  has_in [] x h = absurd (omega (arith, h.1))
-  has_in (y ∷ xs) x (zero, less, at) = inl (sym (at x))
-  has_in (y ∷ xs) x (suc k, less, at) = inr (has_in xs x (k, omega (arith, less), at))
+  pub has_member : (xs : List A) (x : A) → ContainsAt xs x → x ∈ xs
+  has_member [] x h = absurd (omega (arith, h.1))
+  has_member (y ∷ xs) x (zero, less, at) = inl (sym (at x))
+  has_member (y ∷ xs) x (suc k, less, at) = inr (has_member xs x (k, omega (arith, less), at))
 
   -- a shuffled list has the same members
   pub in_shuffled : (xs ys : List A) (x : A) → IsPermutation xs ys → x ∈ xs → x ∈ ys
-  in_shuffled xs ys x s m = has_in ys x (has_shuffled xs ys x s (in_has xs x m))
+  in_shuffled xs ys x s m = has_member ys x (has_shuffled xs ys x s (in_has xs x m))
 
   pub in_unshuffled : (xs ys : List A) (x : A) → IsPermutation xs ys → x ∈ ys → x ∈ xs
   in_unshuffled xs ys x s m = in_shuffled ys xs x (IsPermutation-sym xs ys s) m
-
-  pub has_member : (xs : List A) (x : A) → ContainsAt xs x → x ∈ xs
-  has_member = has_in
 
 -- members of a mapped list
 pub in_map : {A B : Type 0} (f : A → B) (xs : List A) (x : A) → x ∈ xs → f x ∈ map f xs
