@@ -13,19 +13,12 @@ use Rattle.sheet.specs.Check.{Sound, Alike}
 use Rattle.pairing.specs.Pairs.{joint, sheet_pairs}
 use Rattle.pairing.specs.Above.{above, entry_above, greedy_pairing}
 use Rattle.pairing.proofs.Entries.{other_below, other_not_own, mirror_in, mirror_names}
-use Rattle.pairing.proofs.Members.{joint_back, joint_up, pair_in, pair_from}
+use Rattle.pairing.proofs.Members.{joint_back, joint_up, joint_left, joint_shares, pair_in, pair_from}
 use Rattle.pairing.proofs.Orders.{above_ordered, row_above}
 use Rattle.records.specs.Records.{state, chosen_place, chosen, RecordsPair, Entire}
 use Rattle.records.specs.declared.record.Record.{Record}
 use Rattle.outright.specs.Pointing.{Settled, Kept}
 use Rattle.outright.proofs.Keeping.{below_choice, either_above}
-
-joint_holds : (u v : ℕ) → holds (joint u v) u ≡ true
-joint_holds u v = grind (arith, nat_tests)
-
--- two pairs of one parcel touch
-joint_touch : (u v w : ℕ) → touch (joint u v) (joint u w) ≡ true
-joint_touch u v w = grind (arith, nat_tests)
 
 -- a parcel of a pair is one of the two
 held_by : (q : Pair) (x : ℕ) → holds q x ≡ true → (q.lo ≡ x) ⊎ (q.hi ≡ x)
@@ -147,7 +140,7 @@ module _ {K : Type 0} (atleast : K → K → Bool) (laws : Lawful atleast) (t : 
   beats x m two there over = record {
     winner = own x;
     chosen = own_in x there.parcel two;
-    touches = joint_touch x (chosen t rs x) (other t m);
+    touches = joint_shares x (chosen t rs x) (other t m);
     higher = row_above atleast laws t sound same x (chosen_place t rs x) m (kept.best x there.parcel (inr two)).within there ∙ over;
   }
 
@@ -196,6 +189,6 @@ module _ {K : Type 0} (atleast : K → K → Bool) (laws : Lawful atleast) (t : 
     lower = λ p m. (both p (greedy_recorded p m)).lower;
     higher = λ p m. (both p (greedy_recorded p m)).higher;
     alone = λ u less none.
-        ⊎_elim (⊎_elim (λ one. absurd (no_waits u less one)) (λ two. absurd (none (own u) (recorded_greedy (own u) (own_in u less two)) (joint_holds u (chosen t rs u)))))
+        ⊎_elim (⊎_elim (λ one. absurd (no_waits u less one)) (λ two. absurd (none (own u) (recorded_greedy (own u) (own_in u less two)) (joint_left u (chosen t rs u)))))
         (λ three. record { lone = three; none = (kept.bare u less three).none }) (settled u less);
   }

@@ -1,8 +1,9 @@
 -- The pairs of a sheet are its entries, each with its mirror. Assumes nothing.
-use Rattle.std.proofs.Common.{◌≡◌, ℕ, zero, suc, ◌+◌, ◌-◌, ◌<◌, min, max, ltb, List, [], ◌∷◌, map, length, get_or, filter, sym, refl, ap, ◌∙◌, subst, inl, inr, ⊎_elim, arith}
+use Rattle.std.proofs.Common.{◌≡◌, ℕ, zero, suc, ◌+◌, ◌-◌, ◌<◌, min, max, true, ltb, List, [], ◌∷◌, map, length, get_or, filter, sym, refl, ap, ◌∙◌, subst, inl, inr, ⊎_elim, arith}
 use Rattle.std.proofs.lemmas.List.{get_or-take, get_or-drop, length-take, length-drop}
 use Rattle.std.proofs.lemmas.Bool.{ltb-true, lt-ltb, both_ways, cond_both, cases_lt, cases_eq}
-use Rattle.matching.specs.Pairs.{Pair, ◌∈◌}
+use Rattle.std.proofs.lemmas.Bool.Decides.{nat_tests}
+use Rattle.matching.specs.Pairs.{Pair, holds, touch, ◌∈◌}
 use Rattle.matching.proofs.In.{in_front, in_back, in_either}
 use Rattle.sheet.specs.Graph.{Graph, parcels, row_start, row_end, other, InRow, mirror}
 use Rattle.sheet.specs.Check.{Sound}
@@ -47,6 +48,13 @@ joint_back u v = let a : min u v ≡ min v u = omega arith in let b : max u v �
 
 pub joint_up : (u v : ℕ) → u < v → joint u v ≡ record { lo = u; hi = v }
 joint_up u v less = let a : min u v ≡ u = omega arith in let b : max u v ≡ v = omega arith in λ i. record { lo = a i; hi = b i }
+
+pub joint_left : (u v : ℕ) → holds (joint u v) u ≡ true
+joint_left u v = grind (arith, nat_tests)
+
+-- two pairs of one parcel touch
+pub joint_shares : (u v w : ℕ) → touch (joint u v) (joint u w) ≡ true
+joint_shares u v w = grind (arith, nat_tests)
 
 -- an entry that names a pair's higher parcel in the row of the lower one, and its mirror
 pub record Sides {K : Type 0} (t : Graph K) (q : Pair) : Type 0 where

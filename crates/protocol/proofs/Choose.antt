@@ -7,12 +7,14 @@ use Rattle.matching.specs.Pairs.{Pair, touch, ◌∈◌}
 use Rattle.matching.proofs.In.{in_front, in_back, in_either}
 use Rattle.sheet.specs.Graph.{Graph, InRow, parcels, other, mirror, row_start}
 use Rattle.sheet.specs.Check.{Sound}
+use Rattle.sheet.proofs.Rows.{one_row}
 use Rattle.pairing.specs.Above.{above}
 use Rattle.pairing.proofs.Entries.{mirror_in, mirror_back}
+use Rattle.pairing.proofs.Members.{joint_shares}
 use Rattle.pairing.proofs.Orders.{above_ordered}
 use Rattle.protocol.specs.Marks.{bid, drop}
 use Rattle.protocol.proofs.Core.{Core, Inv, Out, BidSent, Choosing, pair_at, upd, upd_same, upd_other, out_more}
-use Rattle.protocol.proofs.Entries.{row_of, same_bid, same_drop, no_bid_drop, mirror_pair, joint_shares, touching, Side}
+use Rattle.protocol.proofs.Entries.{same_bid, same_drop, no_bid_drop, mirror_pair, touching, Side}
 use Rattle.protocol.proofs.Hear.{upd_was}
 
 module _ {K : Type 0} (atleast : K → K → Bool) (laws : Lawful atleast) (t : Graph K) (sound : Sound t) (c : Core) (inv : Inv atleast t c) where
@@ -273,7 +275,7 @@ module _ {K : Type 0} (atleast : K → K → Bool) (laws : Lawful atleast) (t : 
         struck_out = λ v q e z.
             ⊎_elim
             (λ g.
-            let rows : u ≡ v = row_of t sound u v q (all.gone_in q g) e in
+            let rows : u ≡ v = one_row t sound.parcel u v q (all.gone_in q g) e in
             subst (λ x. Out atleast t (upd c.st u 2) (upd c.at u p) (pair_at atleast t x q)) rows (new_out q (all.gone_in q g) (top.over q (all.gone_in q g) (all.gone_open q g) (all.gone_other q g))))
             (λ o. still_out 2 p (inv.struck_out v q e o)) (either q z);
         drop_struck = λ v q e m.
@@ -294,13 +296,13 @@ module _ {K : Type 0} (atleast : K → K → Bool) (laws : Lawful atleast) (t : 
         struck_both = λ v q e z.
             ⊎_elim
             (λ g.
-            let rows : u ≡ v = row_of t sound u v q (all.gone_in q g) e in
+            let rows : u ≡ v = one_row t sound.parcel u v q (all.gone_in q g) e in
             inr (subst (λ x. drop t x q ∈ (drops ++ c.notes)) rows (in_front drops c.notes (drop t u q) (all.drop_for q g))))
             (λ o. ⊎_elim (λ m. inl (struck (mirror t v q) m)) (λ m. inr (in_back drops c.notes (drop t v q) m)) (inv.struck_both v q e o)) (either q z);
         bid_sent = p_chosen (BidSent atleast t (pair p gone drops)) (sent_now u p sent) (λ v b h. sent_now v (c.at v) (inv.bid_sent v b h));
         wait_open = p_waits (λ v x. cond (gone x) false (c.opn x) ≡ true)
             (λ v b not z. cond_both (gone (c.at v)) false (c.opn (c.at v)) (λ y. y ≡ true)
-            (λ g. absurd (not (row_of t sound v u (c.at v) (inv.in_row v b (inl z)) (all.gone_in (c.at v) g)))) (λ _. inv.wait_open v b z));
+            (λ g. absurd (not (one_row t sound.parcel v u (c.at v) (inv.in_row v b (inl z)) (all.gone_in (c.at v) g)))) (λ _. inv.wait_open v b z));
         wait_unbid = p_waits (λ v x. c.bd x ≡ false) (λ v b _ z. inv.wait_unbid v b z);
         pair_struck = p_two (λ v y. (q : ℕ) → InRow t v q → (q ≡ y → ⊥) → cond (gone q) false (c.opn q) ≡ false)
             (λ q e x. ⊎_elim (λ o. gone_struck q (all.gone_all q e o x)) (struck q) (cases_Bool (c.opn q)))

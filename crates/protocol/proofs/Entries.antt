@@ -16,9 +16,6 @@ use Rattle.protocol.proofs.Core.{pair_at}
 pub joint_holds : (u v x : ℕ) → holds (joint u v) x ≡ true → (x ≡ u) ⊎ (x ≡ v)
 joint_holds u v x h = grind (arith, nat_tests)
 
-pub joint_left : (u v : ℕ) → holds (joint u v) u ≡ true
-joint_left u v = grind (arith, nat_tests)
-
 pub joint_right : (u v : ℕ) → holds (joint u v) v ≡ true
 joint_right u v = grind (arith, nat_tests)
 
@@ -26,19 +23,13 @@ joint_right u v = grind (arith, nat_tests)
 pub joint_touch : (u v x y : ℕ) → touch (joint x y) (joint u v) ≡ true → ((x ≡ u) ⊎ (x ≡ v)) ⊎ ((y ≡ u) ⊎ (y ≡ v))
 joint_touch u v x y h = grind (arith, nat_tests)
 
-pub joint_shares : (u v w : ℕ) → touch (joint u v) (joint u w) ≡ true
-joint_shares u v w = grind (arith, nat_tests)
-
 module _ {K : Type 0} (t : Graph K) (sound : Sound t) where
-  pub row_of : (u v p : ℕ) → InRow t u p → InRow t v p → u ≡ v
-  row_of = one_row t sound.parcel
-
   -- an entry is known by its mirror
   pub same_mirror : (u p v q : ℕ) → InRow t u p → InRow t v q → mirror t u p ≡ mirror t v q → (u ≡ v) × (p ≡ q)
   same_mirror u p v q a b e =
       let back = mirror_in t sound v q b in
       let here : InRow t (other t p) (mirror t v q) = subst (InRow t (other t p)) e (mirror_in t sound u p a) in
-      let others : other t p ≡ other t q = row_of (other t p) (other t q) (mirror t v q) here back in
+      let others : other t p ≡ other t q = one_row t sound.parcel (other t p) (other t q) (mirror t v q) here back in
       let rows : u ≡ v = sym (mirror_names t sound u p a) ∙ ap (other t) e ∙ mirror_names t sound v q b in
       (rows, one_place t sound v p q (subst (λ w. InRow t w p) rows a) b others)
 

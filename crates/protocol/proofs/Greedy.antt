@@ -13,14 +13,14 @@ use Rattle.sheet.specs.Graph.{Graph, InRow, parcels, other, mirror, row_end}
 use Rattle.sheet.specs.Check.{Sound, Alike}
 use Rattle.pairing.specs.Pairs.{joint, sheet_pairs}
 use Rattle.pairing.specs.Above.{above, greedy_pairing}
-use Rattle.pairing.proofs.Members.{pair_in, pair_from, joint_up, joint_back}
+use Rattle.pairing.proofs.Members.{pair_in, pair_from, joint_up, joint_back, joint_left}
 use Rattle.pairing.proofs.Orders.{above_ordered}
 use Rattle.records.specs.declared.record.Record.{Record}
 use Rattle.records.specs.Records.{state, chosen_place, RecordsPair, Entire}
 use Rattle.records.specs.Listed.{lower_pairs}
 use Rattle.records.proofs.Laws.{pairs_listed}
 use Rattle.protocol.proofs.Core.{Core, Inv, Out, pair_at}
-use Rattle.protocol.proofs.Entries.{joint_left, joint_holds}
+use Rattle.protocol.proofs.Entries.{joint_holds}
 use Rattle.protocol.proofs.Step.{joint_other}
 
 -- the numbers below n

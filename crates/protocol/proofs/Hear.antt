@@ -5,10 +5,11 @@ use Rattle.line.specs.declared.Note.{Note}
 use Rattle.matching.specs.Pairs.{Pair, ◌∈◌}
 use Rattle.sheet.specs.Graph.{Graph, InRow, parcels, other, mirror}
 use Rattle.sheet.specs.Check.{Sound}
+use Rattle.sheet.proofs.Rows.{one_row}
 use Rattle.pairing.proofs.Entries.{mirror_in, mirror_back}
 use Rattle.protocol.specs.Marks.{bid, drop}
 use Rattle.protocol.proofs.Core.{Core, Inv, Out, BidSent, Choosing, pair_at, upd, upd_same, upd_other, out_more}
-use Rattle.protocol.proofs.Entries.{row_of, same_mirror, same_bid, same_drop, no_bid_drop, mirror_pair}
+use Rattle.protocol.proofs.Entries.{same_mirror, same_bid, same_drop, no_bid_drop, mirror_pair}
 
 -- a number that an update did not write was there before
 pub upd_was : (f : ℕ → ℕ) (u a x k : ℕ) → (a ≡ k → ⊥) → upd f u a x ≡ k → (f x ≡ k) × (x ≡ u → ⊥)
@@ -67,7 +68,7 @@ module _ {K : Type 0} (atleast : K → K → Bool) (t : Graph K) (sound : Sound 
     -- nobody waits at the addressee's entry
     not_there : (u : ℕ) → u < parcels t → c.st u ≡ 1 → c.at u ≡ mirror t s p → ⊥
     not_there u b z e =
-        let is : u ≡ other t p = row_of t sound u (other t p) (mirror t s p) (subst (InRow t u) e (inv.in_row u b (inl z))) (mirror_in t sound s p along) in
+        let is : u ≡ other t p = one_row t sound.parcel u (other t p) (mirror t s p) (subst (InRow t u) e (inv.in_row u b (inl z))) (mirror_in t sound s p along) in
         free (subst (λ x. c.st x ≡ 1) is z) (subst (λ x. c.at x ≡ mirror t s p) is e)
 
     -- a bid is heard: it is marked at the addressee's entry
@@ -140,14 +141,14 @@ module _ {K : Type 0} (atleast : K → K → Bool) (t : Graph K) (sound : Sound 
       -- the struck entry's pair is the sender's
       newly_out : (u q : ℕ) → InRow t u q → q ≡ mirror t s p → Out atleast t c.st c.at (pair_at atleast t u q)
       newly_out u q e at =
-          let rows : u ≡ other t p = row_of t sound u (other t p) (mirror t s p) (subst (InRow t u) at e) (mirror_in t sound s p along) in
+          let rows : u ≡ other t p = one_row t sound.parcel u (other t p) (mirror t s p) (subst (InRow t u) at e) (mirror_in t sound s p along) in
           let pairs : pair_at atleast t u q ≡ pair_at atleast t s p =
           ap (λ x. pair_at atleast t x q) rows ∙ ap (pair_at atleast t (other t p)) at ∙ mirror_pair t sound atleast s p along in
           subst (Out atleast t c.st c.at) (sym pairs) (inv.struck_out s p along sender_struck)
 
       both_sides : (u q : ℕ) → InRow t u q → q ≡ mirror t s p → lose.opn (mirror t u q) ≡ false
       both_sides u q e at =
-          let rows : u ≡ other t p = row_of t sound u (other t p) (mirror t s p) (subst (InRow t u) at e) (mirror_in t sound s p along) in
+          let rows : u ≡ other t p = one_row t sound.parcel u (other t p) (mirror t s p) (subst (InRow t u) at e) (mirror_in t sound s p along) in
           let back : mirror t u q ≡ p = ap (λ x. mirror t x q) rows ∙ ap (mirror t (other t p)) at ∙ mirror_back t sound s p along in
           struck (mirror t u q) (ap c.opn back ∙ sender_struck)
 

@@ -18,6 +18,7 @@ use Rattle.matching.proofs.In.{in_shuffled, in_unshuffled}
 use Rattle.sheet.specs.Graph.{Graph, InRow, parcels, entries, other, mirror, row_start}
 use Rattle.sheet.specs.Check.{Sound, Alike}
 use Rattle.sheet.proofs.Facts.{sized_facts}
+use Rattle.sheet.proofs.Rows.{one_row}
 use Rattle.pairing.proofs.Entries.{other_below}
 use Rattle.protocol.specs.World.{World, fits, free}
 use Rattle.protocol.specs.Marks.{open', bidden, bid, drop, places}
@@ -28,7 +29,6 @@ use Rattle.protocol.specs.History.{Opened, Call, start, fetch, run, refused_clos
 use Rattle.protocol.specs.Law.{started}
 use Rattle.protocol.specs.declared.Ending.{Ending}
 use Rattle.protocol.proofs.Core.{Core, Inv, inv_same, upd, upd_same, upd_other}
-use Rattle.protocol.proofs.Entries.{row_of}
 use Rattle.protocol.proofs.Marks.{in_places}
 use Rattle.protocol.proofs.Long.{chooses_long, receives_long}
 use Rattle.protocol.proofs.Step.{core, chooses_inv, receives_bid, receives_drop}
@@ -138,7 +138,7 @@ module _ {K : Type 0} (atleast : K → K → Bool) (laws : Lawful atleast) (t : 
         λ x _ less n. count_same (used (state w.records x) (chosen_place t w.records x) w.marks) (used (state w'.records x) (chosen_place t w'.records x) w'.marks) (places t x)
         (λ q i.
         let there = in_places t x (omega arith) q i in
-        let marks : open' w.marks q ≡ open' w'.marks q = sym (ap (λ l. open' l q) ch.marks ∙ elsewhere q (λ e. n (row_of t sound x u q there e))) in
+        let marks : open' w.marks q ≡ open' w'.marks q = sym (ap (λ l. open' l q) ch.marks ∙ elsewhere q (λ e. n (one_row t sound.parcel x u q there e))) in
         ap (λ b. not b || ((eqb (state w.records x) 1 || eqb (state w.records x) 2) && eqb (chosen_place t w.records x) q)) marks
         ∙ ap (λ s. not (open' w'.marks q) || ((eqb s 1 || eqb s 2) && eqb (chosen_place t w.records x) q)) (sym (state_far x n))
         ∙ ap (λ c. not (open' w'.marks q) || ((eqb (state w'.records x) 1 || eqb (state w'.records x) 2) && eqb c q)) (sym (place_far x n))) in
