@@ -5,6 +5,7 @@ use Rattle.std.proofs.ByRecursion.{All-weaker}
 use Rattle.std.proofs.lemmas.List.{get_or-replicate}
 use Rattle.std.proofs.lemmas.Bool.{cases_eq}
 use Rattle.line.specs.declared.Note.{Note}
+use Rattle.line.proofs.Updated.{upd, upd_same, upd_other}
 use Rattle.chains.specs.declared.Pool.{Pool}
 use Rattle.chains.specs.declared.Slot.{Slot}
 use Rattle.chains.specs.Gathered.{gathered}
@@ -14,7 +15,7 @@ use Rattle.chains.proofs.Linked.{FreeOf}
 use Rattle.chains.proofs.Puts.{store_within}
 use Rattle.chains.proofs.Tables.{kept_by, held_is, chain_is}
 use Rattle.chains.proofs.Threads.{Threads, ThreadsIn, Loose, front_step, thread_is, threads_in}
-use Rattle.chains.proofs.Updated.{upd, upd_same, upd_other, gathered_upd, gathered_none}
+use Rattle.chains.proofs.Gathered.{gathered_upd, gathered_none}
 
 -- the numbers below i, from the highest down
 abbrev pub down : ℕ → List ℕ
@@ -51,14 +52,14 @@ fresh_none slots cap end past s below =
 upd_upd : {X : Type 0} (f : ℕ → X) (t : ℕ) (v w w' : X) (s : ℕ) → w' ≡ w → upd f t w' s ≡ upd (upd f t v) t w s
 upd_upd f t v w w' s e =
     ⊎_elim
-    (λ here. ap (upd f t w') here ∙ upd_same f t w' ∙ e ∙ sym (upd_same (upd f t v) t w) ∙ ap (upd (upd f t v) t w) (sym here))
+    (λ here. upd_same f t w' s here ∙ e ∙ sym (upd_same (upd f t v) t w s here))
     (λ ne. upd_other f t w' s ne ∙ sym (upd_other f t v s ne) ∙ sym (upd_other (upd f t v) t w s ne))
     (cases_eq s t)
 
 loose : (i : ℕ) → Loose i (free_below i)
 loose i s below =
     ⊎_elim
-    (λ e. subst (FreeOf i) (sym (ap (free_below i) e ∙ upd_same (λ _. []) 64 (down i))) (All-weaker (λ x. x < i) (λ x. x ≢ i) (λ x h e. omega arith) (down i) (down_below i)))
+    (λ e. subst (FreeOf i) (sym (upd_same (λ _. []) 64 (down i) s e)) (All-weaker (λ x. x < i) (λ x. x ≢ i) (λ x h e. omega arith) (down i) (down_below i)))
     (λ ne. subst (FreeOf i) (sym (upd_other (λ _. []) 64 (down i) s ne)) tt)
     (cases_eq s 64)
 

@@ -1,5 +1,5 @@
 mod Linked
-mod Updated
+mod Gathered
 mod Threads
 pub mod Tables
 pub mod Moves

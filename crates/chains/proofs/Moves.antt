@@ -1,8 +1,9 @@
 -- A place that goes from the front of one chain to another chain. Assumes nothing.
-use Rattle.std.proofs.Common.{◌≡◌, ℕ, ◌+◌, ◌<◌, ◌≤◌, cond, ltb, List, [], ◌∷◌, ◌++◌, map, length, get_or, drop, set, sym, ap, ◌∙◌, subst, arith}
+use Rattle.std.proofs.Common.{◌≡◌, ℕ, ◌+◌, ◌<◌, ◌≤◌, cond, ltb, List, [], ◌∷◌, ◌++◌, map, length, get_or, drop, set, sym, refl, ap, ◌∙◌, subst, arith}
 use Rattle.std.proofs.lemmas.List.{length-set, length_push}
 use Rattle.std.proofs.lemmas.Bool.{lt-ltb, cond-true}
 use Rattle.line.specs.declared.Note.{Note}
+use Rattle.line.proofs.Updated.{upd, upd_same, upd_other}
 use Rattle.chains.specs.declared.End.{End}
 use Rattle.chains.specs.declared.End.TheVariants.{Front, Back}
 use Rattle.chains.specs.declared.Pool.{Pool}
@@ -13,7 +14,7 @@ use Rattle.chains.specs.Walk.{slot, slot_at, walk, linked_to}
 use Rattle.chains.proofs.Linked.{note_at}
 use Rattle.chains.proofs.Tables.{threads_of, kept_by, held_is, chain_first}
 use Rattle.chains.proofs.Threads.{Threads, ThreadsIn, Loose, pop_step, pop_loose, tail_below, front_step, back_step, threads_in}
-use Rattle.chains.proofs.Updated.{upd, upd_same, upd_other, gathered_upd}
+use Rattle.chains.proofs.Gathered.{gathered_upd}
 
 module _ (old : Pool) (from : ℕ) (n : Note) (can : MovableIn old from n) where
   -- the place that goes, and those that stay
@@ -66,9 +67,9 @@ module _ (old : Pool) (from : ℕ) (n : Note) (can : MovableIn old from n) where
     moved_then at is-notes =
         let is = held_is new.slots.now new.heads new.tails (capacity_of new) (upd places₁ n.store ps) (upd notes₁ n.store ns) threads whole in
         record {
-          left = is from can.low ∙ upd_other notes₁ n.store ns from can.apart ∙ upd_same (held_in old) from (map (note_at old.slots.now) stay) ∙ ap (drop 1) (sym held_from);
+          left = is from can.low ∙ upd_other notes₁ n.store ns from can.apart ∙ upd_same (held_in old) from (map (note_at old.slots.now) stay) from refl ∙ ap (drop 1) (sym held_from);
           had = let length_from = ap length held_from in omega arith;
-          joins = is n.store can.known ∙ upd_same notes₁ n.store ns ∙ is-notes;
+          joins = is n.store can.known ∙ upd_same notes₁ n.store ns n.store refl ∙ is-notes;
           others = λ s below not-from not-to. is s below ∙ upd_other notes₁ n.store ns s not-to ∙ upd_other (held_in old) from (map (note_at old.slots.now) stay) s not-from;
         }
 

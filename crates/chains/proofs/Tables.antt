@@ -10,7 +10,7 @@ use Rattle.chains.specs.Stores.{notes_in}
 use Rattle.chains.specs.Tables.{Kept, held}
 use Rattle.chains.specs.Walk.{slot_at, walk, chain, holds, last_or}
 use Rattle.chains.proofs.Linked.{note_at, linked_walk, walk_linked}
-use Rattle.chains.proofs.Updated.{gathered_same, gathered_lengths, gathered_bounds}
+use Rattle.chains.proofs.Gathered.{gathered_same, gathered_lengths, gathered_bounds}
 use Rattle.chains.proofs.Threads.{Threads}
 
 module _ (slots : List Slot) (heads tails : List ℕ) (cap : ℕ) where

@@ -5,12 +5,12 @@ use Rattle.std.proofs.lemmas.List.{get_or-set_same, get_or-set_other, set-get_or
 use Rattle.std.proofs.lemmas.List.Folds.{list_all-append}
 use Rattle.std.proofs.lemmas.Bool.{lt-ltb, le-ltb, cases_eq, eqb-true, eq-eqb, and_parts, and_from, cond-true, cond-false}
 use Rattle.line.specs.declared.Note.{Note}
+use Rattle.line.proofs.Updated.{upd, upd_same, upd_other}
 use Rattle.chains.specs.declared.Pool.{Pool}
 use Rattle.chains.specs.declared.Slot.{Slot}
 use Rattle.chains.specs.Stores.{capacity_of}
 use Rattle.chains.specs.Walk.{blank, slot, slot_at, holds, last_or, linked_to}
 use Rattle.chains.proofs.Linked.{Linked, FreeOf, note_at, linked_set, once, places_below, elsewhere, holds_set, notes_set, last_rest, last_push, all_last, pass_last, holds_linked_to, notes_linked_to, extend}
-use Rattle.chains.proofs.Updated.{upd, upd_same, upd_other}
 
 -- from its first place h to its last place t, chain s goes over the places and holds the notes
 pub record Thread (slots : List Slot) (cap h t s : ℕ) (places : List ℕ) (notes : List Note) : Type 0 where
@@ -97,7 +97,7 @@ threads_upd : (slots : List Slot) (heads tails : List ℕ) (cap : ℕ) (places :
 threads_upd slots heads tails cap places notes to h t ps ns in-heads in-tails here others s below =
     let At : ℕ → Type 0 = λ s. Thread slots cap (get_or (set heads to h) s 0) (get_or (set tails to t) s 0) s (upd places to ps s) (upd notes to ns s) in
     ⊎_elim
-    (λ e. subst At (sym e) (thread_is slots cap to (get_or-set_same heads to h 0 in-heads) (get_or-set_same tails to t 0 in-tails) (upd_same places to ps) (upd_same notes to ns) here))
+    (λ e. subst At (sym e) (thread_is slots cap to (get_or-set_same heads to h 0 in-heads) (get_or-set_same tails to t 0 in-tails) (upd_same places to ps to refl) (upd_same notes to ns to refl) here))
     (λ ne. thread_is slots cap s (get_or-set_other heads to s h 0 ne) (get_or-set_other tails to s t 0 ne) (upd_other places to ps s ne) (upd_other notes to ns s ne) (others s below ne))
     (cases_eq s to)
 
@@ -124,7 +124,7 @@ module _ (slots : List Slot) (heads tails : List ℕ) (cap : ℕ) (places : ℕ 
       let own = thread_is slots cap from refl refl (sym is-places) refl (threads from low) in
       let store : (slot_at slots p).note.store ≡ from = eqb-true _ from (and_parts (holds slots from p) (list_all (holds slots from) ps) own.owned).0 in
       ⊎_elim
-      (λ e. subst (FreeOf p) (sym (ap (upd places from ps) e ∙ upd_same places from ps)) (once slots cap (get_or heads from 0) p ps own.linked))
+      (λ e. subst (FreeOf p) (sym (upd_same places from ps s e)) (once slots cap (get_or heads from 0) p ps own.linked))
       (λ ne. subst (FreeOf p) (sym (upd_other places from ps s ne)) (elsewhere slots s (places s) p (λ e. ne (sym e ∙ store)) (threads s below).owned))
       (cases_eq s from)
 

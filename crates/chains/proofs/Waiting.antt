@@ -7,6 +7,7 @@ use Rattle.std.proofs.lemmas.List.Sorted.{IsPermutation-middle, IsPermutation-sy
 use Rattle.std.proofs.lemmas.Bool.{cases_eq, eqb-true, and_parts}
 use Rattle.line.specs.declared.Note.{Note}
 use Rattle.line.specs.Law.{Lawful, Choice}
+use Rattle.line.proofs.Updated.{upd, upd_same, upd_other}
 use Rattle.chains.specs.declared.End.{End}
 use Rattle.chains.specs.declared.End.TheVariants.{Front, Back}
 use Rattle.chains.specs.declared.Pool.{Pool}
@@ -16,7 +17,7 @@ use Rattle.chains.specs.Stores.{Sound, by_store, all_notes, capacity_of, front, 
 use Rattle.chains.specs.Walk.{holds, chain}
 use Rattle.chains.proofs.Linked.{note_at}
 use Rattle.chains.proofs.Puts.{free_count_of, store_within, has_store}
-use Rattle.chains.proofs.Updated.{upd, upd_same, upd_other, gathered_same}
+use Rattle.chains.proofs.Gathered.{gathered_same}
 
 -- ---- a note more
 
@@ -111,7 +112,7 @@ module _ (pool : Pool) (sound : Sound pool) where
       let some = ap length is in
       let known = has_store pool s (omega arith) in
       let without = upd (by_store pool) s rest in
-      let shuffled = one_more without (by_store pool) s note [] rest (upd_same (by_store pool) s rest) is (λ t ne. sym (upd_other (by_store pool) s rest t ne)) 64 known in (
+      let shuffled = one_more without (by_store pool) s note [] rest (upd_same (by_store pool) s rest s refl) is (λ t ne. sym (upd_other (by_store pool) s rest t ne)) 64 known in (
         has_shuffled (note ∷ gathered without 64) (all_notes pool) note shuffled (0, omega arith, λ d. refl),
         (subst (AllByRecursion (λ n. n.store ≡ s)) is (at_home s known)).0,
       )

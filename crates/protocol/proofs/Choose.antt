@@ -2,6 +2,7 @@
 use Rattle.std.proofs.Common.{◌≡◌, ℕ, ◌<◌, Bool, true, false, cond, ◌⊎◌, List, ◌∷◌, ◌++◌, sym, refl, ap, ◌∙◌, subst, inl, inr, ⊎_elim, arith}
 use Rattle.std.proofs.lemmas.Bool.{cases_eq, cases_Bool, both_ways, cond_both, cond-true, cond-false}
 use Rattle.line.specs.declared.Note.{Note}
+use Rattle.line.proofs.Updated.{upd, upd_same, upd_other}
 use Rattle.ranking.specs.Law.{Lawful}
 use Rattle.matching.specs.Pairs.{Pair, touch, ◌∈◌}
 use Rattle.matching.proofs.In.{in_front, in_back, in_either}
@@ -13,7 +14,7 @@ use Rattle.pairing.proofs.Entries.{mirror_in, mirror_back}
 use Rattle.pairing.proofs.Members.{joint_shares}
 use Rattle.pairing.proofs.Orders.{above_ordered}
 use Rattle.protocol.specs.Marks.{bid, drop}
-use Rattle.protocol.proofs.Core.{Core, Inv, Out, BidSent, Choosing, pair_at, upd, upd_same, upd_other, out_more}
+use Rattle.protocol.proofs.Core.{Core, Inv, Out, BidSent, Choosing, pair_at, out_more}
 use Rattle.protocol.proofs.Entries.{same_bid, same_drop, no_bid_drop, mirror_pair, touching, Side}
 use Rattle.protocol.proofs.Hear.{upd_was}
 

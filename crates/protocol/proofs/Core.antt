@@ -1,6 +1,5 @@
 -- What holds of a round at all times: the claims behind every mark, record and note. Assumes nothing.
-use Rattle.std.proofs.Common.{◌≡◌, ℕ, ◌<◌, ◌≤◌, Bool, true, false, cond, eqb, ◌⊎◌, List, sym, ap, ◌∙◌, subst, inl, inr, ⊎_elim, arith}
-use Rattle.std.proofs.lemmas.Bool.{eq-eqb, ne_eqb}
+use Rattle.std.proofs.Common.{◌≡◌, ℕ, ◌<◌, ◌≤◌, Bool, true, false, ◌⊎◌, List, sym, ◌∙◌, subst, inl, inr, ⊎_elim, arith}
 use Rattle.line.specs.declared.Note.{Note}
 use Rattle.matching.specs.Pairs.{Pair, touch, ◌∈◌}
 use Rattle.sheet.specs.Graph.{Graph, InRow, parcels, other, mirror, row_start}
@@ -15,16 +14,6 @@ pub record Core : Type 0 where
   pub opn : ℕ → Bool
   pub bd : ℕ → Bool
   pub notes : List Note
-
--- f, but a at u
-abbrev pub upd : {A : Type 0} → (ℕ → A) → ℕ → A → ℕ → A
-upd f u a x = cond (eqb x u) a (f x)
-
-pub upd_same : {A : Type 0} (f : ℕ → A) (u : ℕ) (a : A) (x : ℕ) → x ≡ u → upd f u a x ≡ a
-upd_same f u a x e = ap (λ b. cond b a (f x)) (eq-eqb x u e)
-
-pub upd_other : {A : Type 0} (f : ℕ → A) (u : ℕ) (a : A) (x : ℕ) → (x ≡ u → ⊥) → upd f u a x ≡ f x
-upd_other f u a x e = ap (λ b. cond b a (f x)) (ne_eqb x u e)
 
 module _ {K : Type 0} (atleast : K → K → Bool) (t : Graph K) where
   -- the pair of the entry at place p of row u

@@ -2,13 +2,14 @@
 use Rattle.std.proofs.Common.{◌≡◌, ℕ, ◌<◌, Bool, true, false, List, ◌∷◌, sym, refl, ap, ◌∙◌, subst, inl, inr, ⊎_elim, arith}
 use Rattle.std.proofs.lemmas.Bool.{cases_eq}
 use Rattle.line.specs.declared.Note.{Note}
+use Rattle.line.proofs.Updated.{upd, upd_same, upd_other}
 use Rattle.matching.specs.Pairs.{Pair, ◌∈◌}
 use Rattle.sheet.specs.Graph.{Graph, InRow, parcels, other, mirror}
 use Rattle.sheet.specs.Check.{Sound}
 use Rattle.sheet.proofs.Rows.{one_row}
 use Rattle.pairing.proofs.Entries.{mirror_in, mirror_back}
 use Rattle.protocol.specs.Marks.{bid, drop}
-use Rattle.protocol.proofs.Core.{Core, Inv, Out, BidSent, Choosing, pair_at, upd, upd_same, upd_other, out_more}
+use Rattle.protocol.proofs.Core.{Core, Inv, Out, BidSent, Choosing, pair_at, out_more}
 use Rattle.protocol.proofs.Entries.{same_mirror, same_bid, same_drop, no_bid_drop, mirror_pair}
 
 -- a number that an update did not write was there before

@@ -10,6 +10,7 @@ use Rattle.std.proofs.lemmas.Bool.{cases_eq, both_ways}
 use Rattle.std.proofs.lemmas.Bool.Decides.{nat_tests}
 use Rattle.faults.specs.declared.Refusal.{Refusal}
 use Rattle.line.specs.declared.Note.{Note}
+use Rattle.line.proofs.Updated.{upd, upd_same, upd_other}
 use Rattle.records.specs.declared.record.Record.{Record}
 use Rattle.records.specs.Records.{record_of, state, chosen_place}
 use Rattle.ranking.specs.Law.{Lawful}
@@ -28,7 +29,7 @@ use Rattle.protocol.specs.Runs.{Ran, other_sizes, still, spent, refused_start, r
 use Rattle.protocol.specs.History.{Opened, Call, start, fetch, run, refused_close, After, opened, then}
 use Rattle.protocol.specs.Law.{started}
 use Rattle.protocol.specs.declared.Ending.{Ending}
-use Rattle.protocol.proofs.Core.{Core, Inv, inv_same, upd, upd_same, upd_other}
+use Rattle.protocol.proofs.Core.{Core, Inv, inv_same}
 use Rattle.protocol.proofs.Marks.{in_places}
 use Rattle.protocol.proofs.Long.{chooses_long, receives_long}
 use Rattle.protocol.proofs.Step.{core, chooses_inv, receives_bid, receives_drop}

@@ -3,6 +3,7 @@ use Rattle.std.proofs.Common.{◌≡◌, ℕ, ◌+◌, ◌-◌, ◌<◌, Bool, t
 use Rattle.std.proofs.lemmas.List.{get_or-set_same, get_or-set_other}
 use Rattle.std.proofs.lemmas.Bool.{cases_eq, cases_Bool, cond-true, cond-false, and_parts, and_from, eqb-true, eq-eqb, both_ways}
 use Rattle.line.specs.declared.Note.{Note}
+use Rattle.line.proofs.Updated.{upd, upd_same, upd_other}
 use Rattle.records.specs.declared.record.Record.{Record}
 use Rattle.ranking.specs.Law.{Lawful}
 use Rattle.matching.specs.Pairs.{Pair, ◌∈◌}
@@ -17,7 +18,7 @@ use Rattle.choosing.specs.Top.{Top}
 use Rattle.choosing.proofs.Tops.{top_above}
 use Rattle.protocol.specs.Marks.{open', bidden, bid, drop, strike, let_go, open_others}
 use Rattle.protocol.specs.Steps.{LetsGo, Chooses, alone, waits, pairs, Receives, hears, agrees, loses, turns, heard, dropped, awaited, entry_of}
-use Rattle.protocol.proofs.Core.{Core, Inv, inv_same, BidSent, pair_at, upd, upd_same, upd_other}
+use Rattle.protocol.proofs.Core.{Core, Inv, inv_same, BidSent, pair_at}
 use Rattle.protocol.proofs.Marks.{struck_closed, struck_bidden, heard_open, heard_bidden, same_open, same_bidden, gone_facts, facts_gone, others_gone, gone_others}
 use Rattle.protocol.proofs.Hear.{reset, reset_inv, hear, hear_inv, sent_now, lose, lose_inv}
 use Rattle.protocol.proofs.Choose.{Tops, send_bid_inv, wait, wait_inv, lone, lone_inv, pair, pair_inv, Others}

@@ -6,6 +6,7 @@ use Rattle.std.proofs.lemmas.List.{length-map}
 use Rattle.std.proofs.lemmas.Bool.Decides.{nat_tests}
 use Rattle.std.proofs.lemmas.Bool.{cases_lt, cases_eq, cases_Bool, both_ways, or_left, or_right, or_cases, not_from_false, not_from_true, not-true, and_parts, and_from, eq-eqb, eqb-true, eqb-false, cond-true, cond-false}
 use Rattle.line.specs.declared.Note.{Note}
+use Rattle.line.proofs.Updated.{upd_same, upd_other}
 use Rattle.records.specs.declared.record.Record.{Record}
 use Rattle.records.specs.Records.{state, chosen_place}
 use Rattle.ranking.specs.Law.{Lawful}
@@ -17,7 +18,6 @@ use Rattle.sheet.proofs.Facts.{parcel_facts}
 use Rattle.protocol.specs.Marks.{open', bid, drop, strike, let_go, open_others, places}
 use Rattle.protocol.specs.Steps.{LetsGo, Chooses, alone, waits, pairs, Receives, hears, agrees, loses, turns, heard, dropped, awaited, entry_of}
 use Rattle.protocol.proofs.Marks.{struck_closed, same_open, gone_facts, facts_gone, place_in, in_places}
-use Rattle.protocol.proofs.Core.{upd_same, upd_other}
 use Rattle.protocol.proofs.Step.{heard_opens, dropped_opens}
 use Rattle.protocol.proofs.Sums.{sum_le, count_two, count_in, count_more, length_places_from}
 

@@ -1,20 +1,9 @@
--- A list for each number, of which one is changed, and all of them joined. Assumes nothing.
-use Rattle.std.proofs.Common.{◌≡◌, ℕ, zero, suc, ◌+◌, ◌<◌, ◌≤◌, cond, eqb, ◌≢◌, List, [], ◌++◌, length, sym, refl, ap, ◌∙◌, ⊎_elim, arith}
+-- The lists that stand for numbers, joined. Assumes nothing.
+use Rattle.std.proofs.Common.{◌≡◌, ℕ, zero, suc, ◌+◌, ◌<◌, ◌≤◌, List, [], ◌++◌, length, sym, refl, ap, ◌∙◌, ⊎_elim, arith}
 use Rattle.std.proofs.lemmas.List.{length-append}
-use Rattle.std.proofs.lemmas.Bool.{cases_eq, eq-eqb, ne_eqb, cond-true, cond-false}
+use Rattle.std.proofs.lemmas.Bool.{cases_eq}
+use Rattle.line.proofs.Updated.{upd, upd_same, upd_other}
 use Rattle.chains.specs.Gathered.{gathered}
-
--- f, but v at t
-abbrev pub upd : {X : Type 0} → (ℕ → X) → ℕ → X → ℕ → X
-upd f t v s = cond (eqb s t) v (f s)
-
-pub upd_same : {X : Type 0} (f : ℕ → X) (t : ℕ) (v : X) → upd f t v t ≡ v
-upd_same f t v = cond-true (eqb t t) v (f t) (eq-eqb t t refl)
-
-pub upd_other : {X : Type 0} (f : ℕ → X) (t : ℕ) (v : X) (s : ℕ) → s ≢ t → upd f t v s ≡ f s
-upd_other f t v s ne = cond-false (eqb s t) v (f s) (ne_eqb s t ne)
-
--- ---- all of them joined
 
 pub gathered_same : {X : Type 0} (f g : ℕ → List X) (n : ℕ) → ((s : ℕ) → s < n → f s ≡ g s) → gathered f n ≡ gathered g n
 unfolding gathered
@@ -41,7 +30,7 @@ gathered_upd f t v (suc n) h =
     let right = length-append (gathered f n) (f n) in
     ⊎_elim
     (λ e. let same = ap length (gathered_same g f n (λ s l. upd_other f t v s (omega arith))) in
-    let here = ap (λ s. length (g s)) (sym e) ∙ ap length (upd_same f t v) in
+    let here = ap (λ s. length (g s)) (sym e) ∙ ap length (upd_same f t v t refl) in
     let there = ap (λ s. length (f s)) e in omega arith)
     (λ ne. let rest = gathered_upd f t v n (omega arith) in
     let same = ap length (upd_other f t v n (λ e. ne (sym e))) in omega arith)
