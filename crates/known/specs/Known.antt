@@ -10,8 +10,8 @@ use Rattle.pairing.specs.Pairs.{joint, sheet_pairs}
 use Rattle.pairing.specs.Above.{greedy_pairing}
 use Rattle.pairing.specs.Theorems.{pair_cents}
 use Rattle.records.specs.declared.record.Record.{Record}
-use Rattle.records.specs.declared.ledger.Totals.{Totals}
 use Rattle.records.specs.Records.{state, chosen, RecordsPair}
+use Rattle.records.specs.Totals.{no_totals}
 use Rattle.protocol.specs.World.{World}
 use Rattle.protocol.specs.Turns.{Started, Fetched, StartRefused}
 use Rattle.protocol.specs.History.{Opened, start, fetch, After}
@@ -67,10 +67,6 @@ pub record SixNotes : Type 0 where
   pub refused : (rs : List Record) (m : List ℕ) → OpenRefused path rs m [] 5 11 0
   pub only : (rs : List Record) (m : List ℕ) (k p : ℕ) → OpenRefused path rs m [] 5 k p → (k ≡ 11) × (p ≡ 0)
 
--- the totals 0, 0, 0, 0
-abbrev pub nothing : Totals
-nothing = record { tally = record { pairs = 0; lone = 0 }; sent = 0; turns = 0 }
-
 -- a size one past a limit
 abbrev pub OnePast : Graph Cents → Type 0
 OnePast t = (parcels t ≡ 1025) ⊎ ((entries t ≡ 16385) ⊎ ((t.limit ≡ 0) ⊎ (t.limit ≡ 65)))
@@ -79,7 +75,7 @@ OnePast t = (parcels t ≡ 1025) ⊎ ((entries t ≡ 16385) ⊎ ((t.limit ≡ 0)
 pub record KnownSheets : Type 0 where
   -- the empty sheet is settled at open, and close answers 0, 0, 0, 0
   pub empty : PairsAs cents_atleast no_parcels []
-  pub empty_closes : (w : World) → Opened {K = Cents} no_parcels w → Closed {K = Cents} no_parcels w nothing
+  pub empty_closes : (w : World) → Opened {K = Cents} no_parcels w → Closed {K = Cents} no_parcels w no_totals
   -- a key of 0 is a key like any other
   pub pair_at_0 : PairsAs cents_atleast two (joint 0 1 ∷ [])
   -- the highest pair of the path is taken, and leaves the outer parcels lone

@@ -2,6 +2,7 @@
 use Rattle.std.specs.Prelude.{◌≡◌, ℕ, ◌+◌, ◌-◌, Bool, true, false, cond, ◌&&◌, List, [], ◌∷◌, map, length, ◌==◌, slice_index, slice_set}
 use Rattle.line.specs.declared.Note.{Note}
 use Rattle.records.specs.declared.record.Record.{Record}
+use Rattle.records.specs.Records.{lone_record}
 use Rattle.sheet.specs.Graph.{Graph, InRow, row_start, place_of}
 use Rattle.choosing.specs.Top.{Top}
 use Rattle.protocol.specs.Marks.{open', bidden, open_others, bid, drop, strike, note_bid, let_go}
@@ -9,10 +10,6 @@ use Rattle.protocol.specs.Marks.{open', bidden, open_others, bid, drop, strike, 
 -- the record of a parcel of this state that chose the entry at place p
 abbrev pub with_choice : {K : Type 0} → Graph K → ℕ → ℕ → ℕ → Record
 with_choice t state u p = record { state = state; choice = p - row_start t u }
-
--- the record of a lone parcel
-abbrev pub lone_record : Record
-lone_record = record { state = 3; choice = 0 }
 
 -- parcel u lets go of all but place p: in row order every other open entry is sent a drop and struck
 pub record LetsGo {K : Type 0} (t : Graph K) (u p : ℕ) (m m' : List ℕ) (out : List Note) : Type 0 where

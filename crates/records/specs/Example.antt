@@ -3,7 +3,7 @@ use Rattle.std.specs.Prelude.{◌≡◌, ℕ, true, false, List, [], ◌∷◌}
 use Rattle.matching.specs.Pairs.{Pair}
 use Rattle.sheet.specs.Graph.{Graph}
 use Rattle.records.specs.declared.record.Record.{Record}
-use Rattle.records.specs.Records.{astray}
+use Rattle.records.specs.Records.{astray, lone_record}
 use Rattle.records.specs.Listed.{lower_pairs, lone_count}
 
 -- the sheet, with any three keys
@@ -21,17 +21,13 @@ row_of_four a b c = record {
 abbrev sheet : Graph ℕ
 sheet = row_of_four 5 9 7
 
--- the record of a lone parcel
-abbrev lone : Record
-lone = record { state = 3; choice = 0 }
-
 -- the record of a paired parcel with this choice
 abbrev paired : ℕ → Record
 paired place = record { state = 2; choice = place }
 
 -- the records: the middle two paired, the others lone
 abbrev pub middle_paired : List Record
-middle_paired = lone ∷ paired 1 ∷ paired 0 ∷ lone ∷ []
+middle_paired = lone_record ∷ paired 1 ∷ paired 0 ∷ lone_record ∷ []
 
 -- the pair of the middle two
 abbrev pub middle : Pair
@@ -43,4 +39,4 @@ RowOfFour =
     (lower_pairs sheet middle_paired ≡ middle ∷ [])
     × (lone_count sheet middle_paired ≡ 2)
     × (astray sheet middle_paired 1 ≡ false)
-    × (astray sheet (lone ∷ paired 2 ∷ []) 1 ≡ true)
+    × (astray sheet (lone_record ∷ paired 2 ∷ []) 1 ≡ true)

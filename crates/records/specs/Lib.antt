@@ -2,4 +2,5 @@ pub mod States
 pub mod Records
 pub mod Right
 pub mod Listed
+pub mod Totals
 pub mod Example

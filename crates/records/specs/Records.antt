@@ -39,6 +39,10 @@ pub record RecordsPair {K : Type 0} (t : Graph K) (rs : List Record) (u v : ℕ)
   pub within : chosen_place t rs u < row_end t u
   pub with' : chosen t rs u ≡ v
 
+-- the record of a lone parcel
+abbrev pub lone_record : Record
+lone_record = record { state = 3; choice = 0 }
+
 -- u is recorded lone, with choice 0
 pub record RecordsLone (rs : List Record) (u : ℕ) : Type 0 where
   pub lone : state rs u ≡ 3

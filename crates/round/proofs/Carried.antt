@@ -5,11 +5,12 @@ use Rattle.std.proofs.lemmas.List.{length-map}
 use Rattle.std.proofs.lemmas.List.Sorted.{IsPermutation-refl, IsPermutation-trans}
 use Rattle.line.specs.declared.Note.{Note}
 use Rattle.records.specs.declared.record.Record.{Record}
+use Rattle.records.specs.Records.{lone_record}
 use Rattle.sheet.specs.Graph.{Graph, parcels, entries}
 use Rattle.sheet.specs.Check.{Sound}
 use Rattle.choosing.specs.Top.{Top}
 use Rattle.protocol.specs.Marks.{open', bid, drop, open_others}
-use Rattle.protocol.specs.Steps.{Chooses, alone, waits, pairs, with_choice, lone_record}
+use Rattle.protocol.specs.Steps.{Chooses, alone, waits, pairs, with_choice}
 use Rattle.protocol.proofs.Tops.{can_let_go}
 use Rattle.round.specs.Parts.{Planned, sends, LetGo, Chose}
 use Rattle.round.specs.declared.choose.Plan.{Plan}

@@ -11,6 +11,7 @@ use Rattle.pairing.specs.Above.{greedy_pairing}
 use Rattle.records.specs.declared.record.Record.{Record}
 use Rattle.records.specs.declared.ledger.Totals.{Totals}
 use Rattle.records.specs.Records.{Entire}
+use Rattle.records.specs.Totals.{no_totals}
 use Rattle.outright.specs.Outright as outright
 use Rattle.line.specs.declared.Note.{Note}
 use Rattle.protocol.specs.World.{World}
@@ -70,10 +71,6 @@ pub record RoundOf (t : Graph Cents) (x : Totals) (rs : List Record) (m : List �
   pub came : CameTo cents_atleast t world
   pub closed : Closed t world x
   pub entire : Entire t rs (greedy_pairing cents_atleast t)
-
--- the totals of no round: all 0
-abbrev pub no_totals : Totals
-no_totals = record { tally = record { pairs = 0; lone = 0 }; sent = 0; turns = 0 }
 
 -- rounds over a line, so many one after the other
 module _ (t : Graph Cents) (repeat : ℕ) (waiting : List Note) (capacity : ℕ) (rs : List Record) (m : List ℕ) where

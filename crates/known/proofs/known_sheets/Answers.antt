@@ -9,18 +9,19 @@ use Rattle.sheet.specs.Graph.{Graph, sized, no_parcels}
 use Rattle.sheet.specs.Check.{size}
 use Rattle.pairing.specs.Pairs.{joint, sheet_pairs}
 use Rattle.records.specs.declared.record.Record.{Record}
+use Rattle.records.specs.Totals.{no_totals}
 use Rattle.protocol.specs.World.{World}
 use Rattle.protocol.specs.History.{Opened}
 use Rattle.protocol.proofs.Holds.{facts_fit}
 use Rattle.round.specs.Closing.{OpenRefused, line_unfit, wrong_length, Closed}
 use Rattle.known.specs.Sheets.{two, path, triangle, ring, finer, two_keys, one_sided, two_editions}
-use Rattle.known.specs.Known.{SixNotes, OnePast, LoneIn, outer, nothing}
+use Rattle.known.specs.Known.{SixNotes, OnePast, LoneIn, outer}
 use Rattle.known.proofs.Computed.{passes_by, refused_by}
 use Rattle.known.proofs.Path.{comes_to, happens}
 use Rattle.known.proofs.known_sheets.Goals as goal
 
 -- the empty sheet: no record, no note, and nothing to count
-closes_empty : (w : World) → Opened {K = Cents} no_parcels w → Closed {K = Cents} no_parcels w nothing
+closes_empty : (w : World) → Opened {K = Cents} no_parcels w → Closed {K = Cents} no_parcels w no_totals
 closes_empty w o = record {
   closable = record {
     fitting = facts_fit {K = Cents} no_parcels w (record { records_long = o.records_long; marks_long = o.marks_long; parcel_count = o.parcel_count; entry_count = o.entry_count; store_count = o.store_count });

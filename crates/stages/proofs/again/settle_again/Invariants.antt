@@ -1,8 +1,9 @@
 use Rattle.std.proofs.Common.{◌≡◌, ◌<◌, ◌⊎◌}
 use Rattle.sheet.specs.Held.{held}
+use Rattle.records.specs.Totals.{no_totals}
 use Rattle.round.specs.Seen.{SameBoard}
 use Rattle.rounds.specs.Settling.{Ready}
-use Rattle.stages.specs.Answers.{RoundOf, no_totals}
+use Rattle.stages.specs.Answers.{RoundOf}
 use Rattle.stages.proofs.again.settle_again.Given as goal
 
 abbrev pub invariant-loop : goal.invariant-loop
