@@ -14,6 +14,7 @@ use Rattle.sheet.specs.declared.checked.Sheet.{Sheet}
 use Rattle.sheet.proofs.Facts.{fitted_facts, parcel_facts}
 use Rattle.sheet.proofs.Held.{held_sound}
 use Rattle.pairing.specs.Pairs.{joint, pair_key}
+use Rattle.pairing.specs.Theorems.{cents_of, pair_cents}
 use Rattle.pairing.proofs.Members.{joint_up}
 use Rattle.pairing.proofs.Keys.{key_up}
 use Rattle.records.specs.declared.record.Record.{Record}
@@ -22,7 +23,7 @@ use Rattle.records.specs.Listed.{pairs_up, partner_above, own_pair, lower_pairs}
 use Rattle.records.proofs.Listing.{up_facts}
 use Rattle.records.proofs.Laws.{pairs_listed}
 use Rattle.results.proofs.Pairs.{share}
-use Rattle.results.specs.Worth.{cents, chosen_cents, pair_cents}
+use Rattle.results.specs.Worth.{chosen_cents}
 
 -- whether there is a partner is whether u records such a pair
 some_is : {K : Type 0} (t : Graph K) (rs : List Record) (u : ℕ) → is_some (partner_above t rs u) ≡ pairs_up t rs u
@@ -62,7 +63,7 @@ share_read s rs u place tables same up is =
     let here : place ≡ chosen_place t rs u = (let e = is ∙ placed s rs u up in cc) in
     subst (λ x. (get_or {A = Cents} (graph x).keys place (record { 0 = 0 })).0 ≡ share t rs (chosen_cents t rs) u) (sym same)
     (ap (λ p. (get_or t.keys p (record { 0 = 0 })).0) here
-    ∙ sym (cond-true (pairs_up t rs u) (chosen_cents t rs (own_pair t rs u)) 0 up ∙ ap cents (slice_get-get_or t.keys (chosen_place t rs u) (record { 0 = 0 }) (keyed s rs u up))))
+    ∙ sym (cond-true (pairs_up t rs u) (chosen_cents t rs (own_pair t rs u)) 0 up ∙ ap cents_of (slice_get-get_or t.keys (chosen_place t rs u) (record { 0 = 0 }) (keyed s rs u up))))
 
 -- two measures that agree on the pairs of a list have one sum there
 sum_same : (f g : Pair → ℕ) (ps : List Pair) → ((p : Pair) → p ∈ ps → f p ≡ g p) → sum_by f ps ≡ sum_by g ps
@@ -83,4 +84,4 @@ chosen_is_pair t rs sound =
     let within : InRow t u (chosen_place t rs u) = record { parcel = own.parcel; from = omega arith; to = own.within } in
     let up = subst (λ v. u < v) (sym own.with') has.1 in
     let is : joint u (chosen t rs u) ≡ p = joint_up u (chosen t rs u) up ∙ ap (λ v. record { lo = u; hi = v }) own.with' in
-    ap cents (sym (key_up t sound u (chosen_place t rs u) within up) ∙ ap (pair_key t) is))
+    ap cents_of (sym (key_up t sound u (chosen_place t rs u) within up) ∙ ap (pair_key t) is))
