@@ -10,6 +10,7 @@ use Rattle.matching.proofs.In.{in_shuffled, in_unshuffled}
 use Rattle.sheet.specs.Graph.{row_end}
 use Rattle.sheet.specs.Check.{Sound}
 use Rattle.pairing.specs.Above.{entry_above}
+use Rattle.pairing.specs.Examples.{path}
 use Rattle.pairing.proofs.Compared.{cents_lawful}
 use Rattle.choosing.specs.Top.{Top}
 use Rattle.line.specs.declared.Note.{Note}
@@ -23,7 +24,6 @@ use Rattle.protocol.specs.History.{Opened, start, fetch, After, opened, then}
 use Rattle.protocol.proofs.Holds.{fits_facts, facts_fit}
 use Rattle.protocol.proofs.Refusals.{one_top}
 use Rattle.protocol.proofs.Tops.{gone_marks, can_let_go}
-use Rattle.known.specs.Sheets.{path}
 use Rattle.known.specs.Known.{ThreeTurns}
 
 -- a list with the same element everywhere

@@ -9,6 +9,7 @@ use Rattle.sheet.specs.Check.{Passed, Refused}
 use Rattle.pairing.specs.Pairs.{joint, sheet_pairs}
 use Rattle.pairing.specs.Above.{greedy_pairing}
 use Rattle.pairing.specs.Theorems.{pair_cents}
+use Rattle.pairing.specs.Examples.{two, path, triangle, ring, finer}
 use Rattle.records.specs.declared.record.Record.{Record}
 use Rattle.records.specs.Records.{state, chosen, RecordsPair}
 use Rattle.records.specs.Totals.{no_totals}
@@ -17,7 +18,7 @@ use Rattle.protocol.specs.Turns.{Started, Fetched, StartRefused}
 use Rattle.protocol.specs.History.{Opened, start, fetch, After}
 use Rattle.protocol.specs.Law.{started}
 use Rattle.round.specs.Closing.{OpenRefused, Closed}
-use Rattle.known.specs.Sheets.{two, path, triangle, ring, finer, two_keys, one_sided, two_editions}
+use Rattle.known.specs.Sheets.{two_keys, one_sided, two_editions}
 
 -- a sheet that passes the check, with its greedy pairing in the order taken
 pub record PairsAs {K : Type 0} (atleast : K → K → Bool) (t : Graph K) (M : List Pair) : Type 0 where

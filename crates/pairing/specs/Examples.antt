@@ -8,7 +8,7 @@ use Rattle.sheet.specs.Graph.{Graph, no_parcels}
 use Rattle.pairing.specs.Above.{greedy_pairing}
 
 -- the key of so many cents
-abbrev cents : ℕ → Cents
+abbrev pub cents : ℕ → Cents
 cents n = cents_key n 0
 
 -- the pair with a as its lower parcel and b as its higher
@@ -19,7 +19,7 @@ pair a b = record { lo = a; hi = b }
 abbrev pub two : Graph Cents
 two = record { starts = 0 ∷ 1 ∷ 2 ∷ []; others = 1 ∷ 0 ∷ []; keys = cents 0 ∷ cents 0 ∷ []; stores = 0 ∷ 0 ∷ []; editions = 21 ∷ 21 ∷ []; limit = 1 }
 
--- four parcels in a row, at 5, 9 and 7 cents
+-- four parcels in a row, at 5, 9 and 7 cents, the first two in store 0 and the others in store 1
 abbrev pub path : Graph Cents
 path = record {
   starts = 0 ∷ 1 ∷ 3 ∷ 5 ∷ 6 ∷ [];

@@ -8,13 +8,14 @@ use Rattle.matching.specs.Half.{Pairing}
 use Rattle.sheet.specs.Graph.{Graph, sized, no_parcels}
 use Rattle.sheet.specs.Check.{size}
 use Rattle.pairing.specs.Pairs.{joint, sheet_pairs}
+use Rattle.pairing.specs.Examples.{two, path, triangle, ring, finer}
 use Rattle.records.specs.declared.record.Record.{Record}
 use Rattle.records.specs.Totals.{no_totals}
 use Rattle.protocol.specs.World.{World}
 use Rattle.protocol.specs.History.{Opened}
 use Rattle.protocol.proofs.Holds.{facts_fit}
 use Rattle.round.specs.Closing.{OpenRefused, line_unfit, wrong_length, Closed}
-use Rattle.known.specs.Sheets.{two, path, triangle, ring, finer, two_keys, one_sided, two_editions}
+use Rattle.known.specs.Sheets.{two_keys, one_sided, two_editions}
 use Rattle.known.specs.Known.{SixNotes, OnePast, LoneIn, outer}
 use Rattle.known.proofs.Computed.{passes_by, refused_by}
 use Rattle.known.proofs.Path.{comes_to, happens}
