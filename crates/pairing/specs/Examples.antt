@@ -19,16 +19,20 @@ pair a b = record { lo = a; hi = b }
 abbrev pub two : Graph Cents
 two = record { starts = 0 ∷ 1 ∷ 2 ∷ []; others = 1 ∷ 0 ∷ []; keys = cents 0 ∷ cents 0 ∷ []; stores = 0 ∷ 0 ∷ []; editions = 21 ∷ 21 ∷ []; limit = 1 }
 
--- four parcels in a row, at 5, 9 and 7 cents, the first two in store 0 and the others in store 1
-abbrev pub path : Graph Cents
-path = record {
+-- four parcels in a row, the first two in store 0 and the others in store 1, with any three keys
+abbrev pub row_of_four : {K : Type 0} → K → K → K → Graph K
+row_of_four a b c = record {
   starts = 0 ∷ 1 ∷ 3 ∷ 5 ∷ 6 ∷ [];
   others = 1 ∷ 0 ∷ 2 ∷ 1 ∷ 3 ∷ 2 ∷ [];
-  keys = cents 5 ∷ cents 5 ∷ cents 9 ∷ cents 9 ∷ cents 7 ∷ cents 7 ∷ [];
+  keys = a ∷ a ∷ b ∷ b ∷ c ∷ c ∷ [];
   stores = 0 ∷ 0 ∷ 1 ∷ 1 ∷ [];
   editions = 21 ∷ 21 ∷ 21 ∷ 21 ∷ [];
   limit = 2;
 }
+
+-- such a row at 5, 9 and 7 cents
+abbrev pub path : Graph Cents
+path = row_of_four (cents 5) (cents 9) (cents 7)
 
 -- three parcels, each with both others, all at 7 cents
 abbrev pub triangle : Graph Cents

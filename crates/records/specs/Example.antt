@@ -2,20 +2,10 @@
 use Rattle.std.specs.Prelude.{◌≡◌, ℕ, true, false, List, [], ◌∷◌}
 use Rattle.matching.specs.Pairs.{Pair}
 use Rattle.sheet.specs.Graph.{Graph}
+use Rattle.pairing.specs.Examples.{row_of_four}
 use Rattle.records.specs.declared.record.Record.{Record}
 use Rattle.records.specs.Records.{astray, lone_record}
 use Rattle.records.specs.Listed.{lower_pairs, lone_count}
-
--- the sheet, with any three keys
-abbrev pub row_of_four : {K : Type 0} → K → K → K → Graph K
-row_of_four a b c = record {
-  starts = 0 ∷ 1 ∷ 3 ∷ 5 ∷ 6 ∷ [];
-  others = 1 ∷ 0 ∷ 2 ∷ 1 ∷ 3 ∷ 2 ∷ [];
-  keys = a ∷ a ∷ b ∷ b ∷ c ∷ c ∷ [];
-  stores = 0 ∷ 0 ∷ 1 ∷ 1 ∷ [];
-  editions = 21 ∷ 21 ∷ 21 ∷ 21 ∷ [];
-  limit = 2;
-}
 
 -- the sheet with the keys 5, 9 and 7
 abbrev sheet : Graph ℕ

@@ -3,8 +3,9 @@ use Rattle.std.specs.Prelude.{◌≡◌, [], ◌∷◌, codes, sum_by}
 use Rattle.ranking.specs.Kinds.{cents_key}
 use Rattle.ranking.specs.declared.Cents.{Cents}
 use Rattle.sheet.specs.Graph.{Graph}
+use Rattle.pairing.specs.Examples.{row_of_four}
 use Rattle.pairing.specs.Theorems.{pair_cents}
-use Rattle.records.specs.Example.{row_of_four, middle_paired, middle}
+use Rattle.records.specs.Example.{middle_paired, middle}
 use Rattle.records.specs.Listed.{lower_pairs}
 use Rattle.results.specs.Worth.{chosen_cents}
 use Rattle.results.specs.Text.{result_text}
