@@ -53,8 +53,8 @@ found_by {bs} {before} {after} {z} h (inr (y, _, inr (_, inr (_, inr (l, listed,
 pub found : {bs : List ℕ} {before after : Tables Cents} {z : Sizes} → Read cents_key 1 bs before (Ok z) after → Found bs before after z
 found h = found_by h h.outcome
 
-laid_long : {X : Type 0} (vs old : List X) (n : ℕ) → length vs ≡ n → n ≤ length (laid vs old)
-laid_long vs old n is = omega (arith, length-append vs (drop (length vs) old), is)
+laid_reaches : {X : Type 0} (vs old : List X) (n : ℕ) → length vs ≡ n → n ≤ length (laid vs old)
+laid_reaches vs old n is = omega (arith, length-append vs (drop (length vs) old), is)
 
 -- tables that hold what was read have room for it
 pub room_after : {bs : List ℕ} {before after : Tables Cents} {z : Sizes} → Found bs before after z → Room z after
@@ -65,11 +65,11 @@ room_after {before} {after} {z} text =
     subst (λ (s : Sizes). Room s after) text.sizes
     (subst (Room l.sizes) (sym text.reads.values)
     (record {
-      starts = laid_long _ before.starts _ (length-map-range_with_len _ 0 (l.sizes.parcels + 1));
-      others = laid_long _ before.others _ e;
-      keys = laid_long _ before.keys _ (length-map l.entries _ ∙ text.reads.listed.all_entries);
-      stores = laid_long _ before.stores _ n;
-      editions = laid_long _ before.editions _ (length-map l.parcels _ ∙ text.reads.listed.all_parcels);
+      starts = laid_reaches _ before.starts _ (length-map-range_with_len _ 0 (l.sizes.parcels + 1));
+      others = laid_reaches _ before.others _ e;
+      keys = laid_reaches _ before.keys _ (length-map l.entries _ ∙ text.reads.listed.all_entries);
+      stores = laid_reaches _ before.stores _ n;
+      editions = laid_reaches _ before.editions _ (length-map l.parcels _ ∙ text.reads.listed.all_parcels);
     }))
 
 -- what the check says of the first places, it says of the sheet
