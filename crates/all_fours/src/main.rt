@@ -1,5 +1,6 @@
 //! Pairs every sheet of four parcels with keys 0 to 2 in three ways, in rounds over both kinds of line and outright, and
-//! says what came of it and on how many sheets the three were apart.
+//! says what came of it and on how many sheets the three were apart. It makes the sheets and runs the rounds in a way of its
+//! own, and not in that of `all_orders`, so that one mistake does not show in both.
 #![tactic(auto)]
 
 use faults::Fault;

@@ -11,7 +11,7 @@ use sheet::Sheet;
 // No round of these sheets takes more turns: one for each parcel, and one for each note.
 const MOST_TURNS: u32 = PARCELS + MOST_ENTRIES as u32;
 
-/// An order of calls: an enum, so that the orders can stand in a static table.
+/// An order of calls: an enum, since each order is taken over any kind of line, which a function in a table could not be.
 #[derive(Clone, Copy)]
 pub enum CallOrder {
     /// A run until the round is still.

@@ -64,7 +64,7 @@ pub struct Note {
 
 /// A kind of line. Which of a store's notes is handed out first is the kind's own rule.
 pub trait Line {
-    // what a line means, by three members: most clauses speak of one of them alone
+    // what a line means, by three members: the clauses of its own calls speak of one or two, and only rounds of all three
 
     // the notes that wait, each as often as it was put; the order of the list says nothing
     ghost waiting: { Self → List Note };

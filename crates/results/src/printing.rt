@@ -10,7 +10,7 @@ use crate::writer::{Writer, line_length};
 use faults::{Fault, Refusal};
 use records::{Ledger, Totals};
 
-// How long the line is of the pair that parcel `u` records with a higher-numbered one; 0 if it records none.
+// What parcel `u` adds to the length: the line of the pair that it records with a higher-numbered one, or nothing.
 fn pair_length<K: Copy>(ledger: Ledger<'_, K>, u: u32) -> usize
     ensures value { result ≡ (if pairs_up (held ledger.entry.sheet.now) ledger.entry.records.now u then length (pair_line (own_pair (held ledger.entry.sheet.now) ledger.entry.records.now u)) else 0) }
     ensures bound { result ≤ 44 }

@@ -9,7 +9,7 @@ use faults::Fault;
 use ranking::Cents;
 use records::Ledger;
 
-// The cents of the pair that parcel `u` records with a higher-numbered one; 0 if it records none.
+// What parcel `u` adds to the sum: the cents of the pair that it records with a higher-numbered one, or nothing.
 fn cents_of(ledger: Ledger<'_, Cents>, u: u32) -> u32
     ensures { result ≡ (if pairs_up (held ledger.entry.sheet.now) ledger.entry.records.now u then chosen_cents (held ledger.entry.sheet.now) ledger.entry.records.now (own_pair (held ledger.entry.sheet.now) ledger.entry.records.now u) else 0) }
 {

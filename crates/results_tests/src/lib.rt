@@ -40,7 +40,8 @@ mod tests {
         turns: 10,
     };
 
-    // Four parcels in a row: 0 - 1 for 5 cents, 1 - 2 for 9, and 2 - 3 for 7. The crate `rounds_tests` has it too: a crate for it alone would be no plainer.
+    // Four parcels in a row: 0 - 1 for 5 cents, 1 - 2 for 9, and 2 - 3 for 7. The tests of `outright` and of rounds have it too: a
+    // crate for this one sheet would be no plainer.
     fn row_of_four(sheet: &mut Sheet<'static, Cents>) -> Result<(), Fault> {
         let tables = Tables {
             starts: &STARTS,

@@ -46,8 +46,8 @@ pub(crate) enum Plan {
 
 // The steps of a turn take the sheet, the marks and the line one by one, and so do those that only read: a struct of the three
 // would make each step say that it still lends the same sheet and slices, and a board also that the records stay. What a step
-// asks of a row or of the marks it asks itself, since that is a fact about the sheet and the marks together. Each step that
-// sends notes promises in a clause of its own, `size`, that the line keeps its capacity.
+// asks of a row or of the marks it asks itself, since that is a fact about the sheet and the marks together. Each step here
+// that sends notes promises in `size` that the line keeps its capacity, which is a fact of two lines and so no ghost field's.
 
 // A note along the entry at place `p` of row `u`.
 fn note_along<K: Copy>(sheet: &Sheet<K>, kind: Kind, u: usize, p: usize) -> Note

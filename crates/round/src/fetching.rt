@@ -41,44 +41,41 @@ fn take_sure<L: Line>(line: &mut L, note: Note)
     let _ = line.take(note.store);
 }
 
-// A note as its addressee receives it, with the addressee's entry for the sender and the record that it has.
-#[derive(Clone, Copy)]
-struct Arrival {
+// A note of a sheet's round as its addressee receives it, with the addressee's entry for the sender and the record that it has.
+#[derive(Drop)]
+struct Arrival<'a, K> {
+    sheet: &'a Sheet<'a, K>,
     note: Note,
     at: usize,
     was: Record,
+    ghost within: { InRow (held sheet.now) note.addressee at },
+    ghost entry: { at ≡ entry_of (held sheet.now) note },
 }
 
-impl Arrival {
+impl<K: Ranking> Arrival<'_, K> {
     // Whether the addressee waits with that entry as its choice.
-    fn awaits<K: Copy>(self, sheet: &Sheet<K>) -> bool
-        requires { InRow (held sheet.now) self.note.addressee self.at }
-        ensures { result ≡ (self.was.state == 1 && row_start (held sheet.now) self.note.addressee + self.was.choice == self.at) }
+    fn awaits(&self) -> bool
+        ensures { result ≡ (self.now.was.state == 1 && row_start (held self.now.sheet.now) self.now.note.addressee + self.now.was.choice == self.now.at) }
     {
         let a = self.note.addressee as usize;
-        self.was.is(State::Waits) && sheet.place(a, self.was.choice) == Some(self.at)
+        self.was.is(State::Waits) && self.sheet.place(a, self.was.choice) == Some(self.at)
     }
 
     // The addressee receives a bid: its entry for the sender is marked, and if it waits with that choice, it pairs there.
     // No answer, and nothing altered, where there is no room for what that sends.
-    fn receive_bid<K: Ranking, L: Line>(
-        self,
-        sheet: &Sheet<K>,
-        marks: &mut [u8],
-        line: &mut L,
-    ) -> Option<(Record, u32)>
-        requires kind { self.note.kind ≡ 1 }
-        requires within { InRow (held sheet.now) self.note.addressee self.at }
-        requires entry { self.at ≡ entry_of (held sheet.now) self.note }
-        requires long { length marks.old ≡ entries (held sheet.now) }
-        requires handed { L.Line.chosen line.old self.note.store ≡ Some self.note }
-        ensures { Received K.Ranking.atleast (held sheet.now) L.Line.waiting L.Line.capacity self.note self.was result marks.old marks.new line.old line.new }
+    fn receive_bid<L: Line>(&self, marks: &mut [u8], line: &mut L) -> Option<(Record, u32)>
+        requires kind { self.now.note.kind ≡ 1 }
+        requires long { length marks.old ≡ entries (held self.now.sheet.now) }
+        requires handed { L.Line.chosen line.old self.now.note.store ≡ Some self.now.note }
+        ensures { Received K.Ranking.atleast (held self.now.sheet.now) L.Line.waiting L.Line.capacity self.now.note self.now.was result marks.old marks.new line.old line.new }
     {
-        let Arrival { note, at, was } = self;
-        if !self.awaits(sheet) {
+        let sheet = self.sheet;
+        let note = self.note;
+        let at = self.at;
+        if !self.awaits() {
             take_sure(line, note);
             marks[at] |= BIDDEN;
-            return Some((was, 0));
+            return Some((self.was, 0));
         }
         let a = note.addressee as usize;
         let count = count_open_others(sheet, marks, a, at);
@@ -93,25 +90,20 @@ impl Arrival {
 
     // The addressee receives a drop: its entry for the sender is struck, and if it waits with that choice, it chooses.
     // No answer, and nothing altered, where there is no room for what that sends.
-    fn receive_drop<K: Ranking, L: Line>(
-        self,
-        sheet: &Sheet<K>,
-        marks: &mut [u8],
-        line: &mut L,
-    ) -> Option<(Record, u32)>
-        requires kind { self.note.kind ≡ 2 }
-        requires within { InRow (held sheet.now) self.note.addressee self.at }
-        requires entry { self.at ≡ entry_of (held sheet.now) self.note }
-        requires long { length marks.old ≡ entries (held sheet.now) }
-        requires handed { L.Line.chosen line.old self.note.store ≡ Some self.note }
-        ensures { Received K.Ranking.atleast (held sheet.now) L.Line.waiting L.Line.capacity self.note self.was result marks.old marks.new line.old line.new }
+    fn receive_drop<L: Line>(&self, marks: &mut [u8], line: &mut L) -> Option<(Record, u32)>
+        requires kind { self.now.note.kind ≡ 2 }
+        requires long { length marks.old ≡ entries (held self.now.sheet.now) }
+        requires handed { L.Line.chosen line.old self.now.note.store ≡ Some self.now.note }
+        ensures { Received K.Ranking.atleast (held self.now.sheet.now) L.Line.waiting L.Line.capacity self.now.note self.now.was result marks.old marks.new line.old line.new }
     {
-        let Arrival { note, at, was } = self;
+        let sheet = self.sheet;
+        let note = self.note;
+        let at = self.at;
         let old = marks[at];
         marks[at] = old | STRUCK;
-        if !self.awaits(sheet) {
+        if !self.awaits() {
             take_sure(line, note);
-            return Some((was, 0));
+            return Some((self.was, 0));
         }
         let a = note.addressee as usize;
         let plan = plan_choice(sheet, marks, a);
@@ -125,23 +117,15 @@ impl Arrival {
     }
 
     // The addressee receives the note, which is of this kind.
-    fn receive<K: Ranking, L: Line>(
-        self,
-        sheet: &Sheet<K>,
-        marks: &mut [u8],
-        line: &mut L,
-        kind: Kind,
-    ) -> Option<(Record, u32)>
-        requires kind { code kind ≡ self.note.kind }
-        requires comes { stray K.Ranking.atleast (held sheet.now) self.note.store self.note ≡ false }
-        requires entry { self.at ≡ entry_of (held sheet.now) self.note }
-        requires long { length marks.old ≡ entries (held sheet.now) }
-        requires handed { L.Line.chosen line.old self.note.store ≡ Some self.note }
-        ensures { Received K.Ranking.atleast (held sheet.now) L.Line.waiting L.Line.capacity self.note self.was result marks.old marks.new line.old line.new }
+    fn receive<L: Line>(&self, marks: &mut [u8], line: &mut L, kind: Kind) -> Option<(Record, u32)>
+        requires kind { code kind ≡ self.now.note.kind }
+        requires long { length marks.old ≡ entries (held self.now.sheet.now) }
+        requires handed { L.Line.chosen line.old self.now.note.store ≡ Some self.now.note }
+        ensures { Received K.Ranking.atleast (held self.now.sheet.now) L.Line.waiting L.Line.capacity self.now.note self.now.was result marks.old marks.new line.old line.new }
     {
         match kind {
-            Kind::Bid => self.receive_bid(sheet, marks, line),
-            Kind::Drop => self.receive_drop(sheet, marks, line),
+            Kind::Bid => self.receive_bid(marks, line),
+            Kind::Drop => self.receive_drop(marks, line),
         }
     }
 }
@@ -178,8 +162,13 @@ pub fn fetch<K: Ranking, L: Line>(
         return Err((Refusal::Astray, note.addressee));
     }
     let was = board.records[a];
-    let arrival = Arrival { note, at, was };
-    let received = arrival.receive(sheet, board.marks, board.line, kind);
+    let arrival = Arrival {
+        sheet,
+        note,
+        at,
+        was,
+    };
+    let received = arrival.receive(board.marks, board.line, kind);
     let (now_is, sent) = received.ok_or((Refusal::NoRoom, note.addressee))?;
     board.records[a] = now_is;
     round.count_turn(sent);

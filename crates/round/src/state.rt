@@ -34,6 +34,7 @@ impl Round {
 // and a round is its caller's until closing takes it.
 
 /// What the turns of a round write to: the records of the sheet's parcels, the marks of its entries, and the line.
+// That a call still lends the same slices when it returns, it says in a clause: without that its caller would know nothing of them.
 #[derive(Drop)]
 pub struct Board<'a, L> {
     pub records: &'a mut [Record],

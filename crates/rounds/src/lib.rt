@@ -91,7 +91,7 @@ pub fn run<K: Ranking, L: Line>(
     ensures board { SameBoard board.old board.new }
 {
     if !board.fits(round, sheet) {
-        return (0, Ending::Refused(u32::from(Refusal::WrongLength), 0));
+        return (0, Ending::from((Refusal::WrongLength, 0)));
     }
     // no parcel below is idle, and no turn makes one idle
     let mut from = 0;
@@ -99,8 +99,8 @@ pub fn run<K: Ranking, L: Line>(
         let Some(turn) = next_turn(sheet, board, from) else {
             return (made, Ending::Still);
         };
-        if let Err((refusal, place)) = make_turn(round, sheet, board, turn) {
-            return (made, Ending::Refused(u32::from(refusal), place));
+        if let Err(fault) = make_turn(round, sheet, board, turn) {
+            return (made, Ending::from(fault));
         }
         from = match turn {
             Turn::StartOf(u) => u,

@@ -30,7 +30,8 @@ mod tests {
         choice: 9,
     };
 
-    // Four parcels in a row: 0 - 1 for 5 cents, 1 - 2 for 9, and 2 - 3 for 7. No library has it: each test crate stands alone.
+    // Four parcels in a row: 0 - 1 for 5 cents, 1 - 2 for 9, and 2 - 3 for 7. The tests of `outright` and `results` have it too: a
+    // crate for this one sheet would be no plainer.
     fn row_of_four(sheet: &mut Sheet<'static, Cents>) -> Result<(), Fault> {
         let tables = Tables {
             starts: &STARTS,

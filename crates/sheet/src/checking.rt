@@ -29,6 +29,6 @@ pub fn check<'a, K: Ranking>(sheet: &mut Sheet<'a, K>, tables: Tables<'a, K>) ->
 pub fn find_entry<K: Copy>(sheet: &Sheet<K>, u: usize, v: usize) -> Option<usize>
     ensures { result ≡ entry_between (graph sheet.now.tables) u v }
 {
-    // by steps, though a checked row rises: by `binary_search` a round takes up to 1.4 times as long as plain Rust does so
+    // by steps, though a checked row rises: by `binary_search` a round takes up to 1.4 times as long as in plain Rust that searches so
     find(sheet.tables.others, sheet.row(u), v)
 }

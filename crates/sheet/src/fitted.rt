@@ -61,7 +61,7 @@ impl<'a, K: Ranking> Fitted<'a, K> {
             && t.stores[u] < t.store_count
     }
 
-    // The first parcel whose row or store is wrong; without parcels, 0 if there are entries.
+    // The first parcel whose row or store is wrong; without parcels, 0 if there are entries or the one start is not 0.
     fn wrong_parcel(&self) -> Option<usize>
         ensures { WrongParcel (graph self.now.tables) result }
     {

@@ -147,7 +147,7 @@ pub fn pair_text(text: &[u8], memory: &mut MemoryMut<'_>, out: &mut [u8]) -> Res
     ensures slices { SameMemory memory.old memory.new }
 {
     let sizes = read(text, &mut memory.tables)?;
-    // before the sheet, which borrows a part of the memory
+    // read and checked as in `check_text`, which has no sheet to hand out: a sheet borrows the tables, a part of this memory
     let enough = memory.is_enough(sizes);
     let mut sheet = Sheet::empty();
     let Some(first) = memory.tables.cut(sizes) else {

@@ -8,7 +8,8 @@ fn value_of(bytes: &[u8]) -> Option<u32>
     ensures { elim result [ Some v ↦ AllByRecursion Digit bytes.now × (v ≡ value bytes.now) | None ↦ AllByRecursion Digit bytes.now → 4294967295 < value bytes.now ] }
 {
     let mut value: u32 = 0;
-    // a loop: by `parse` reading took 1.35 times as long as plain Rust (docs/DESIGN-PASS.md)
+    // a loop: by `parse` reading took 1.35 times as long as plain Rust (docs/DESIGN-PASS.md), and `try_fold` is no plainer, with
+    // the test and two `?` in a closure
     for b in bytes {
         if !b.is_ascii_digit() {
             return None;

@@ -44,7 +44,7 @@ returns-in_default g c =
 pub returns-in-Err : goal.returns-in-Err
 returns-in-Err g c =
     let inv = c.loop-made.invariant in
-    record { turns = rw c.from-in-Err.ensures (ends_refused g.K.Ranking.atleast (held c.args.sheet.now) c.loop-made.made c.args.budget inv.0 inv.1 c.loop-made-test.true c.in-Some.turn (c.in-Err.refusal, c.in-Err.place) c.in-Some.ensures c.in-Err.ensures.turn); bound = omega (arith, c.loop-made-test.true); board = same_boards inv.2 c.in-Err.ensures.board }
+    record { turns = rw c.from-in-Err.ensures (ends_refused g.K.Ranking.atleast (held c.args.sheet.now) c.loop-made.made c.args.budget inv.0 inv.1 c.loop-made-test.true c.in-Some.turn c.in-Err.fault c.in-Some.ensures c.in-Err.ensures.turn); bound = omega (arith, c.loop-made-test.true); board = same_boards inv.2 c.in-Err.ensures.board }
 
 pub returns-in-Some-next_turn : goal.returns-in-Some-next_turn
 returns-in-Some-next_turn g c =

@@ -1,14 +1,15 @@
-use Rattle.std.proofs.Common.{◌≡◌, ◌+◌, ◌<◌, ◌≤◌, min, true, false, Some, unwrap_or, sym, refl, ap, ◌∙◌, subst, arith}
+use Rattle.std.proofs.Common.{◌≡◌, ◌+◌, ◌<◌, ◌≤◌, min, true, Some, unwrap_or, sym, refl, ap, ◌∙◌, subst, arith}
 use Rattle.std.proofs.lemmas.Result.{err_from_is_err_and}
 use Rattle.faults.specs.declared.Refusal.TheVariants.{NothingWaits, StrayNote, NoRoom}
 use Rattle.sheet.specs.View.{graph}
+use Rattle.sheet.specs.Graph.{InRow}
 use Rattle.sheet.specs.Held.{held}
 use Rattle.sheet.proofs.Held.{held_sound}
-use Rattle.protocol.specs.Turns.{no_store, fetch_sizes, nothing, stray_note, wrong_record, fetch_room, stray}
+use Rattle.protocol.specs.Turns.{no_store, fetch_sizes, nothing, stray_note, wrong_record, fetch_room}
 use Rattle.protocol.proofs.Holds.{fits_facts}
 use Rattle.protocol.proofs.Refusals.{fetch_not_accepted}
 use Rattle.round.specs.Seen.{world}
-use Rattle.round.proofs.Coming.{comes_parcel, strays_here}
+use Rattle.round.proofs.Coming.{comes_parcel, comes_row, strays_here}
 use Rattle.round.proofs.Handed.{handed_store}
 use Rattle.round.proofs.fetching.fetch.Goals as goal
 
@@ -62,6 +63,15 @@ returns-then-strays-clause-turn g c =
     let why = wrong_record low fit next comes.0 (sym strays ∙ c.if-strays.true) in
     (why, fetch_not_accepted g.K.Ranking.atleast g.met.K.Ranking.lawful (held s) why, refl)
 
+pub invariant_of-arrival : goal.invariant_of-arrival
+invariant_of-arrival g c =
+    let s = c.args.sheet.now in
+    let comes = rw c.in_ok-kind.ensures.ok_part at c.entry_for.ensures in
+    record {
+      within = subst (InRow (held s) c.in_ok-note.note.addressee) (sym comes.2) (comes_row g.K.Ranking.atleast (held s) (held_sound s) c.args.store c.in_ok-note.note comes.0);
+      entry = comes.2;
+    }
+
 pub receive-received-requires : goal.receive-received-requires
 receive-received-requires g c =
     let s = c.args.sheet.now in
@@ -73,8 +83,6 @@ receive-received-requires g c =
     let here = handed_store (g.L.Line.waiting c.args.board.now.line.now) (g.L.Line.capacity c.args.board.now.line.now) (g.L.Line.chosen c.args.board.now.line.now) (g.L.Line.lawful c.args.board.now.line.now) c.args.store c.in_ok-note.note next in
     record {
       kind = comes.1;
-      comes = subst (λ x. stray g.K.Ranking.atleast (held s) x c.in_ok-note.note ≡ false) (sym here) comes.0;
-      entry = comes.2;
       long = facts.marks_long;
       handed = subst (λ x. g.L.Line.chosen c.args.board.now.line.now x ≡ Some c.in_ok-note.note) (sym here) next;
     }
