@@ -49,8 +49,7 @@ pub static ORDERS: [CallOrder; 4] = [
 
 static EDITIONS: [u16; 4] = [1, 1, 1, 1];
 
-// What the recorded pairs are worth, if the records are right. It is apart from the round, since a body that lends the sheet to a
-// call with a board and then to a ledger gets no proof.
+// What the recorded pairs are worth, if the records are right.
 fn worth_of(sheet: &Sheet<Cents>, records: &[Record]) -> Option<u64> {
     worth(Ledger { sheet, records }).ok()
 }

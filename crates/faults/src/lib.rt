@@ -1,7 +1,7 @@
 //! The refusals, each with its number. docs/FAULTS.md says when each is given, and with which place.
 #![tactic(auto)]
 
-ghost use Rattle.std.specs.Prelude.{◌≡◌};
+ghost use Rattle.std.specs.Prelude.{◌≡◌, Some, decimal};
 ghost use Rattle.faults.specs.Numbers.{number};
 
 use std::fmt;
@@ -68,6 +68,9 @@ pub fn numbered(fault: Fault) -> (u32, u32)
 }
 
 impl fmt::Display for Refusal {
+    ghost output = { λ refusal. Some (decimal (number refusal)) };
+
+    /// Prints the number.
     fn fmt<W: fmt::Write>(&self, f: &mut fmt::Formatter<W>) -> fmt::Result {
         write!(f, "{}", u32::from(*self))
     }

@@ -82,10 +82,9 @@ impl Work<'_> {
         if !record.is(State::Waits) {
             return false;
         }
-        let Some(place) = sheet.place(w, record.choice) else {
-            return false;
-        };
-        sheet.tables().others[place] as usize == v
+        let tables = sheet.tables();
+        let place = tables.starts[w] as usize + record.choice as usize;
+        tables.others[place] as usize == v
     }
 
     // Pairs parcel `v`, at this choice, with parcel `w`, at the choice that it waits with, and lists both.
@@ -107,6 +106,8 @@ impl Work<'_> {
 
     // Parcel `v` looks through its row: it points at its top free entry, and is paired there if that parcel waits at
     // `v`; with no free entry it is lone.
+    // inlined, since as a call it would keep the struct in memory, which short rows pay for
+    #[inline(always)]
     fn settle<K: Ranking>(&mut self, sheet: &Sheet<K>, v: u32)
         requires ready { WorkReady K.Ranking.atleast (held sheet.now) self.old }
         requires parcel { v < parcels (held sheet.now) }

@@ -6,11 +6,33 @@ use Rattle.reading.specs.declared.TablesMut.{TablesMut}
 use Rattle.reading.specs.Outcome.{Tables, SameSlices, Room, laid, with_parcels}
 
 pub same_slices : {K : Type 0} {t : TablesMut K} → SameSlices t t
-same_slices = record { starts = refl; others = refl; keys = refl; stores = refl; editions = refl }
+same_slices = record {
+  starts = refl;
+  others = refl;
+  keys = refl;
+  stores = refl;
+  editions = refl;
+  starts_long = refl;
+  others_long = refl;
+  keys_long = refl;
+  stores_long = refl;
+  editions_long = refl;
+}
 
 pub slices_through : {K : Type 0} {a b c : TablesMut K} → SameSlices a b → SameSlices b c → SameSlices a c
 slices_through f g =
-    record { starts = g.starts ∙ f.starts; others = g.others ∙ f.others; keys = g.keys ∙ f.keys; stores = g.stores ∙ f.stores; editions = g.editions ∙ f.editions }
+    record {
+      starts = g.starts ∙ f.starts;
+      others = g.others ∙ f.others;
+      keys = g.keys ∙ f.keys;
+      stores = g.stores ∙ f.stores;
+      editions = g.editions ∙ f.editions;
+      starts_long = g.starts_long ∙ f.starts_long;
+      others_long = g.others_long ∙ f.others_long;
+      keys_long = g.keys_long ∙ f.keys_long;
+      stores_long = g.stores_long ∙ f.stores_long;
+      editions_long = g.editions_long ∙ f.editions_long;
+    }
 
 laid_long : {X : Type 0} (vs old : List X) → length old ≤ length (laid vs old)
 laid_long vs old =

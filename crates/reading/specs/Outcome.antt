@@ -25,13 +25,18 @@ tables starts others keys stores editions = record { starts = starts; others = o
 abbrev pub lent : {K : Type 0} → TablesMut K → Tables K
 lent t = tables t.starts.now t.others.now t.keys.now t.stores.now t.editions.now
 
--- the same slices are lent, whatever they hold
+-- the same slices are lent, each as long as it was, whatever they hold
 pub record SameSlices {K : Type 0} (was is : TablesMut K) : Type 0 where
   pub starts : is.starts.ghost_name ≡ was.starts.ghost_name
   pub others : is.others.ghost_name ≡ was.others.ghost_name
   pub keys : is.keys.ghost_name ≡ was.keys.ghost_name
   pub stores : is.stores.ghost_name ≡ was.stores.ghost_name
   pub editions : is.editions.ghost_name ≡ was.editions.ghost_name
+  pub starts_long : length is.starts.now ≡ length was.starts.now
+  pub others_long : length is.others.now ≡ length was.others.now
+  pub keys_long : length is.keys.now ≡ length was.keys.now
+  pub stores_long : length is.stores.now ≡ length was.stores.now
+  pub editions_long : length is.editions.now ≡ length was.editions.now
 
 -- sizes that are within the limits
 pub record Within (z : Sizes) : Type 0 where

@@ -13,10 +13,11 @@ use sheet::Sheet;
 
 /// A sheet and the records of its parcels, lent for reading. There need not be a record for each parcel: the public calls try
 /// that, or do without.
+// A lifetime for each reference: with one for all, a body that lends the sheet to a round and then to a ledger gets no proof.
 #[derive(Clone, Copy)]
-pub struct Ledger<'a, K> {
-    pub sheet: &'a Sheet<'a, K>,
-    pub records: &'a [Record],
+pub struct Ledger<'s, 't, 'r, K> {
+    pub sheet: &'s Sheet<'t, K>,
+    pub records: &'r [Record],
 }
 
 /// How many pairs and lone parcels records say there are.
@@ -39,7 +40,7 @@ pub struct Totals {
     pub turns: u32,
 }
 
-impl<K: Copy> Ledger<'_, K> {
+impl<K: Copy> Ledger<'_, '_, '_, K> {
     /// How many parcels the sheet has; at most 1,024.
     pub fn parcel_count(self) -> u32
         ensures { result ≡ parcels (held self.entry.sheet.now) }
@@ -102,9 +103,12 @@ impl<K: Copy> Ledger<'_, K> {
         ensures { result ≡ partner_above (held self.entry.sheet.now) self.entry.records.now u }
     {
         let record = self.records.get(u as usize)?;
+        if !record.is(State::Paired) {
+            return None;
+        }
         let place = self.sheet.place(u as usize, record.choice)?;
         let other = self.sheet.tables().others[place];
-        (record.is(State::Paired) && u < other).then_some(other)
+        (u < other).then_some(other)
     }
 
     // Whether parcel `u` records a pair with a higher-numbered one.

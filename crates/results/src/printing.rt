@@ -11,7 +11,7 @@ use faults::{Fault, Refusal};
 use records::{Ledger, Totals};
 
 // What parcel `u` adds to the length: the line of the pair that it records with a higher-numbered one, or nothing.
-fn pair_length<K: Copy>(ledger: Ledger<'_, K>, u: u32) -> usize
+fn pair_length<K: Copy>(ledger: Ledger<'_, '_, '_, K>, u: u32) -> usize
     ensures value { result ≡ (if pairs_up (held ledger.entry.sheet.now) ledger.entry.records.now u then length (pair_line (own_pair (held ledger.entry.sheet.now) ledger.entry.records.now u)) else 0) }
     ensures bound { result ≤ 44 }
 {
@@ -19,7 +19,7 @@ fn pair_length<K: Copy>(ledger: Ledger<'_, K>, u: u32) -> usize
 }
 
 // How long the lines of the recorded pairs are.
-fn pairs_length<K: Copy>(ledger: Ledger<'_, K>) -> usize
+fn pairs_length<K: Copy>(ledger: Ledger<'_, '_, '_, K>) -> usize
     ensures value { result ≡ length (flat_map pair_line (lower_pairs (held ledger.entry.sheet.now) ledger.entry.records.now)) }
     ensures bound { result ≤ 44 * 1024 }
 {
@@ -29,7 +29,7 @@ fn pairs_length<K: Copy>(ledger: Ledger<'_, K>) -> usize
 }
 
 // Writes the lines of the recorded pairs.
-fn write_pairs<K: Copy>(ledger: Ledger<'_, K>, text: &mut Writer<'_>)
+fn write_pairs<K: Copy>(ledger: Ledger<'_, '_, '_, K>, text: &mut Writer<'_>)
     requires { RoomFor text.old (flat_map pair_line (lower_pairs (held ledger.sheet.now) ledger.records.now)) }
     ensures { Wrote text.old text.new (flat_map pair_line (lower_pairs (held ledger.entry.sheet.now) ledger.entry.records.now)) }
 {
@@ -48,7 +48,7 @@ fn write_pairs<K: Copy>(ledger: Ledger<'_, K>, text: &mut Writer<'_>)
 /// Refuses records that are not one for each parcel (12, at 0), else the lowest parcel whose record is out of range
 /// (16, at that parcel), else a buffer that is shorter than the text (3, at 0). A refusal leaves the buffer as it was.
 pub fn result_text<K: Copy>(
-    ledger: Ledger<'_, K>,
+    ledger: Ledger<'_, '_, '_, K>,
     totals: Totals,
     buffer: &mut [u8],
 ) -> Result<usize, Fault>

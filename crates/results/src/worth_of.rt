@@ -10,7 +10,7 @@ use ranking::Cents;
 use records::Ledger;
 
 // What parcel `u` adds to the sum: the cents of the pair that it records with a higher-numbered one, or nothing.
-fn cents_of(ledger: Ledger<'_, Cents>, u: u32) -> u32
+fn cents_of(ledger: Ledger<'_, '_, '_, Cents>, u: u32) -> u32
     ensures { result ≡ (if pairs_up (held ledger.entry.sheet.now) ledger.entry.records.now u then chosen_cents (held ledger.entry.sheet.now) ledger.entry.records.now (own_pair (held ledger.entry.sheet.now) ledger.entry.records.now u) else 0) }
 {
     if ledger.partner_above(u).is_none() {
@@ -27,7 +27,7 @@ fn cents_of(ledger: Ledger<'_, Cents>, u: u32) -> u32
 ///
 /// Refuses records that are not one for each parcel (12, at 0), and else the lowest parcel whose record is out of
 /// range (16, at that parcel).
-pub fn worth(ledger: Ledger<'_, Cents>) -> Result<u64, Fault>
+pub fn worth(ledger: Ledger<'_, '_, '_, Cents>) -> Result<u64, Fault>
     ensures { elim result [ Ok sum ↦ Worth (held ledger.entry.sheet.now) ledger.entry.records.now sum | Err f ↦ Refused (held ledger.entry.sheet.now) ledger.entry.records.now (number f.0) f.1 ] }
 {
     ledger.try_records()?;

@@ -1,4 +1,4 @@
-ghost use Rattle.std.specs.Prelude.{◌≡◌, ◌≤◌, length, decimal};
+ghost use Rattle.std.specs.Prelude.{◌≡◌, ◌≤◌, length, decimal, ◌∷◌, []};
 ghost use Rattle.results.specs.Text.{field, line};
 ghost use Rattle.results.specs.Writing.{RoomFor, Wrote};
 
@@ -17,14 +17,25 @@ pub(crate) struct Writer<'a> {
 }
 
 impl Writer<'_> {
+    // Writes a byte. It is apart from the loop over it, of which the compiler makes a call of `memcpy` otherwise: a program in C
+    // would have to bring one (docs/DOOR.md).
+    #[inline(never)]
+    fn byte(&mut self, byte: u8)
+        requires { RoomFor self.old (byte ∷ []) }
+        ensures { Wrote self.old self.new (byte ∷ []) }
+    {
+        self.buffer[self.count] = byte;
+        self.count += 1;
+    }
+
     // Writes these bytes.
     fn push(&mut self, bytes: &[u8])
         requires { RoomFor self.old bytes.now }
         ensures { Wrote self.old self.new bytes.now }
     {
-        let end = self.count + bytes.len();
-        self.buffer[self.count..end].copy_from_slice(bytes);
-        self.count = end;
+        for byte in bytes {
+            self.byte(*byte);
+        }
     }
 
     // Writes a number and the byte that ends its field.

@@ -72,7 +72,7 @@ pub fn open<K: Ranking, L: Line>(
 }
 
 // The lowest parcel that is idle or waits.
-fn first_undecided<K: Copy>(ledger: Ledger<'_, K>) -> Option<usize>
+fn first_undecided<K: Copy>(ledger: Ledger<'_, '_, '_, K>) -> Option<usize>
     requires { Right (held ledger.sheet.now) ledger.records.now }
     ensures { FirstUndecided (held ledger.entry.sheet.now) ledger.entry.records.now result }
 {
@@ -83,7 +83,7 @@ fn first_undecided<K: Copy>(ledger: Ledger<'_, K>) -> Option<usize>
 // What the records of a round come to, if it can be closed.
 fn try_close<K: Copy, L: Line>(
     round: &Round,
-    ledger: Ledger<'_, K>,
+    ledger: Ledger<'_, '_, '_, K>,
     marks: &[u8],
     line: &L,
 ) -> Result<Tally, Fault>

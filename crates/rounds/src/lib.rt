@@ -29,7 +29,7 @@ pub enum Turn {
 }
 
 // The lowest idle parcel; none below `from` is idle.
-fn lowest_idle<K: Copy>(ledger: Ledger<'_, K>, from: u32) -> Option<u32>
+fn lowest_idle<K: Copy>(ledger: Ledger<'_, '_, '_, K>, from: u32) -> Option<u32>
     requires long { length ledger.records.now ≡ parcels (held ledger.sheet.now) }
     requires busy { NoIdleBelow ledger.records.now from }
     ensures { Idle (held ledger.entry.sheet.now) ledger.entry.records.now result }

@@ -6,7 +6,7 @@ ghost use Rattle.ranking.specs.Law.{alike, lifted};
 ghost use Rattle.std.specs.List.{slice_get};
 
 use crate::checked::Sheet;
-use crate::tables::{Tables, find};
+use crate::tables::{Tables, find_number};
 use faults::{Fault, Refusal};
 use ranking::Ranking;
 
@@ -116,7 +116,7 @@ impl<'a, K: Ranking> Rows<'a, K> {
         }
         let t = self.fitted.tables;
         let v = t.others[p] as usize;
-        let Some(q) = find(t.others, t.row(v), u) else {
+        let Some(q) = find_number(t.others, t.row(v), u as u32) else {
             return Some(Refusal::Mirror);
         };
         if !keys_alike(t.keys, p, q) {

@@ -68,11 +68,18 @@ impl<'a, K: Copy> Tables<'a, K> {
 // The first place of `row` at which `v` stands.
 pub(crate) fn find(others: &[u32], row: Range<usize>, v: usize) -> Option<usize>
     requires { (row.start ≤ row.end) × (row.end ≤ length others.now) }
+    ensures { result ≡ place_between others.now row.start row.end v }
+{
+    find_number(others, row, u32::try_from(v).ok()?)
+}
+
+// The same of a number of the table's type: to compare so is faster than as `usize`.
+pub(crate) fn find_number(others: &[u32], row: Range<usize>, v: u32) -> Option<usize>
+    requires { (row.start ≤ row.end) × (row.end ≤ length others.now) }
     ensures first { result ≡ place_between others.now row.start row.end v }
     ensures before { IfSome result (λ p. p < row.end) }
 {
-    // compared as `u32`, which is faster than as `usize`; by steps, since rows are not known to rise while they are checked
-    let v = u32::try_from(v).ok()?;
+    // by steps, since rows are not known to rise while they are checked
     let start = row.start;
     others[row]
         .iter()

@@ -94,8 +94,7 @@ pub fn check_text(text: &[u8], tables: &mut TablesMut<'_, Cents>) -> Result<Size
     Ok(sizes)
 }
 
-// Settles a round of the sheet over a queue. It is apart from the printing, since a body that lends the sheet to a call with a
-// board and then to a ledger gets no proof.
+// Settles a round of the sheet over a queue.
 fn settle_over_queue(
     sheet: &Sheet<Cents>,
     records: &mut [Record],

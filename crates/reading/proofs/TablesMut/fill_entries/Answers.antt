@@ -1,5 +1,5 @@
 use Rattle.std.proofs.Common.{◌≡◌, ◌+◌, ◌<◌, ◌≤◌, [], ◌∷◌, ◌++◌, map, length, sym, refl, ap, ◌∙◌, subst, arith}
-use Rattle.std.proofs.lemmas.List.{map_push}
+use Rattle.std.proofs.lemmas.List.{map_push, length-set}
 use Rattle.text.specs.Rows.{none}
 use Rattle.reading.specs.Listing.{NeverFalls, key_of}
 use Rattle.reading.specs.Outcome.{tables}
@@ -23,7 +23,6 @@ loop-j-init g c = (
   refl,
   refl,
   refl,
-  refl,
   same_slices,
 )
 
@@ -42,7 +41,7 @@ loop-j-preserved g c =
     let told = c.in-Some.ensures in
     let x = told.entry in
     let room = c.requires.room in
-    let same = so.12 in
+    let same = so.11 in
     let low = c.in-Some.entry.row in
     let known : low < c.args.body.now.sizes.parcels = omega (arith, told.row, told.fit.known) in
     let above : c.loop-j.started ≤ low + 1 = omega (arith, so.3, told.row, told.in_order) in
@@ -54,22 +53,43 @@ loop-j-preserved g c =
       omega arith,
       entries_push x so.5 told.fit (omega (arith, so.2, told.in_order)) told.written,
       started_push x (started_to (low + 1) so.6 (subst (Written _ _ _ _) (sym so.1) new) above) (ap (λ n. n + 1) told.row),
-      c.fill_starts.auto.starts ∙ so.7,
-      laid_more (λ y. y.other) so.0 x _ _ _ c.loop-j.j so.8 so.1 (omega (arith, room.others)) told.other,
-      laid_more (key_of g.K.Ranking.made) so.0 x _ _ _ c.loop-j.j so.9 so.1 (omega (arith, room.keys)) told.key,
+      laid_more (λ y. y.other) so.0 x _ _ _ c.loop-j.j so.7 so.1 (omega (arith, room.others)) told.other,
+      laid_more (key_of g.K.Ranking.made) so.0 x _ _ _ c.loop-j.j so.8 so.1 (omega (arith, room.keys)) told.key,
+      so.9,
       so.10,
-      so.11,
-      record { starts = same.starts; others = same.others; keys = same.keys; stores = same.stores; editions = same.editions },
+      record {
+        starts = same.starts;
+        others = same.others;
+        keys = same.keys;
+        stores = same.stores;
+        editions = same.editions;
+        starts_long = c.fill_starts.auto.starts ∙ same.starts_long;
+        others_long = length-set _ _ _ ∙ same.others_long;
+        keys_long = length-set _ _ _ ∙ same.keys_long;
+        stores_long = same.stores_long;
+        editions_long = same.editions_long;
+      },
     )
 
 pub returns : goal.returns
 returns g c =
     let so = c.loop-j.invariant in
     let all : length so.0 ≡ c.args.body.now.sizes.entries = omega (arith, so.1) in
+    let same = so.11 in
     let new : Written c.loop-j.self.starts.now c.fill_starts-2.new.starts c.loop-j.started (c.args.body.now.sizes.parcels + 1) c.args.body.now.sizes.entries = record { before = c.fill_starts-2.ensures.before; within = c.fill_starts-2.ensures.within; after = c.fill_starts-2.ensures.after } in
-    let starts = started_all c.args.body.now.sizes.parcels (started_to (c.args.body.now.sizes.parcels + 1) so.6 (subst (Written _ _ _ _) (sym all) new) (omega (arith, so.4))) (c.fill_starts-2.auto.starts ∙ so.7) c.requires.room.starts in
-    let same = so.12 in
+    let starts = started_all c.args.body.now.sizes.parcels (started_to (c.args.body.now.sizes.parcels + 1) so.6 (subst (Written _ _ _ _) (sym all) new) (omega (arith, so.4))) (c.fill_starts-2.auto.starts ∙ same.starts_long) c.requires.room.starts in
     record {
-      entries = (so.0, all, so.5, λ i. tables (starts i) (so.8 i) (so.9 i) (so.10 i) (so.11 i));
-      slices = record { starts = same.starts; others = same.others; keys = same.keys; stores = same.stores; editions = same.editions };
+      entries = (so.0, all, so.5, λ i. tables (starts i) (so.7 i) (so.8 i) (so.9 i) (so.10 i));
+      slices = record {
+        starts = same.starts;
+        others = same.others;
+        keys = same.keys;
+        stores = same.stores;
+        editions = same.editions;
+        starts_long = c.fill_starts-2.auto.starts ∙ same.starts_long;
+        others_long = same.others_long;
+        keys_long = same.keys_long;
+        stores_long = same.stores_long;
+        editions_long = same.editions_long;
+      };
     }

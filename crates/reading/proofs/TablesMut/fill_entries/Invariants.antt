@@ -16,7 +16,6 @@ invariant-loop-j g l =
     × (l.started ≤ l.sizes.parcels)
     × Entries g.K.Ranking.fields l.sizes.parcels xs (left l.initial.body.lines) (left l.body.lines)
     × Started l.initial.self.starts.now l.self.starts.now xs l.started
-    × (length l.self.starts.now ≡ length l.initial.self.starts.now)
     × (l.self.others.now ≡ laid (map (λ x. x.other) xs) l.initial.self.others.now)
     × (l.self.keys.now ≡ laid (map (key_of g.K.Ranking.made) xs) l.initial.self.keys.now)
     × (l.self.stores.now ≡ l.initial.self.stores.now)

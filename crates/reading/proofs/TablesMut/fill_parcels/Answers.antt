@@ -1,4 +1,5 @@
-use Rattle.std.proofs.Common.{[], ◌∷◌, ◌++◌, sym, refl, ap, subst, append-nil, arith}
+use Rattle.std.proofs.Common.{[], ◌∷◌, ◌++◌, sym, refl, ap, ◌∙◌, subst, append-nil, arith}
+use Rattle.std.proofs.lemmas.List.{length-set}
 use Rattle.text.specs.Parts.{left}
 use Rattle.text.specs.Rows.{Begins, none}
 use Rattle.reading.proofs.Lent.{same_slices}
@@ -32,5 +33,16 @@ loop-i-preserved g c =
       parcels_push p so.2 so.1 told.0 told.1,
       so.3,
       λ i. record (so.4 i) { stores = stores i; editions = editions i },
-      record { starts = same.starts; others = same.others; keys = same.keys; stores = same.stores; editions = same.editions },
+      record {
+        starts = same.starts;
+        others = same.others;
+        keys = same.keys;
+        stores = same.stores;
+        editions = same.editions;
+        starts_long = same.starts_long;
+        others_long = same.others_long;
+        keys_long = same.keys_long;
+        stores_long = length-set _ _ _ ∙ same.stores_long;
+        editions_long = length-set _ _ _ ∙ same.editions_long;
+      },
     )
