@@ -106,7 +106,7 @@ impl Work<'_> {
 
     // Parcel `v` looks through its row: it points at its top free entry, and is paired there if that parcel waits at
     // `v`; with no free entry it is lone.
-    // inlined, since as a call it would keep the struct in memory, which short rows pay for
+    // It is inlined: as a call it would keep the struct in memory, and pairing would take longer where rows are short.
     #[inline(always)]
     fn settle<K: Ranking>(&mut self, sheet: &Sheet<K>, v: u32)
         requires ready { WorkReady K.Ranking.atleast (held sheet.now) self.old }

@@ -44,7 +44,7 @@ impl Writer<'_> {
         ensures { Wrote self.old self.new (field n ending) }
     {
         self.push(Buffer::new().format(n).as_bytes());
-        self.push(&[ending]);
+        self.byte(ending);
     }
 
     // Writes the line of these numbers.

@@ -8,7 +8,7 @@ use Rattle.sheet_text.specs.Pairing.{Memory, memory}
 abbrev pub lent_memory : MemoryMut → List ℕ → Memory
 lent_memory m out = memory (lent m.tables) m.records.now m.marks.now m.slots.now out
 
--- the same slices are lent, those for the round as long as they were, whatever they hold
+-- the same slices are lent, each as long as it was, whatever they hold
 pub record SameMemory (was is : MemoryMut) : Type 0 where
   pub tables : SameSlices was.tables is.tables
   pub records : is.records.ghost_name ≡ was.records.ghost_name

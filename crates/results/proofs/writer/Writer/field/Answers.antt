@@ -6,4 +6,4 @@ use Rattle.results.proofs.writer.Writer.field.Goals as goal
 pub returns : goal.returns
 returns c =
     let digits : c.as_bytes.result.now ≡ decimal c.args.n = c.as_bytes.ensures.value ∙ c.format.ensures.text in
-    wrote_more c.args.self.now c.push.new.self (decimal c.args.n) (c.args.ending ∷ []) (subst (Wrote c.args.self.now c.push.new.self) digits c.push.ensures) c.requires c.push-2.new.self c.push-2.ensures
+    wrote_more c.args.self.now c.push.new.self (decimal c.args.n) (c.args.ending ∷ []) (subst (Wrote c.args.self.now c.push.new.self) digits c.push.ensures) c.requires c.byte.new.self c.byte.ensures
